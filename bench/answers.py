@@ -1,11 +1,11 @@
-"""Whether a script was answered as it has to be.
+"""Whether a script was answered as it must be.
 
-A player that takes nothing back is let off the lines that tell what was taken back.
+A player that undoes nothing is excused from the lines that show what was undone.
 """
 
 
 def fault_of(script, replies, takes_back):
-    """The first reply that does not begin as the script tells, in words, or nothing."""
+    """The first reply that does not begin as the script expects, in words, or nothing."""
     if len(replies) != len(script):
         return f"{len(replies)} replies to {len(script)} lines"
     for at in lines_held_to(script, takes_back):

@@ -97,7 +97,7 @@ def bytes_a_call(player, kind, way, file):
 
 
 def check(player, script, file):
-    """Raises ValueError where a script is not answered as it has to be."""
+    """Raises ValueError if a script is not answered as it must be."""
     fault = answers.fault_of(script, measuring.replies(player.words, file), takes_back=True)
     if fault is not None:
         raise ValueError(f"{player.name}: {fault}")

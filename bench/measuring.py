@@ -22,7 +22,7 @@ def heap(words, script):
 
 
 def counted(tool, words, script, pattern):
-    """What a tool of valgrind counts, as it tells at the end."""
+    """The count of a tool of valgrind, as it reports at the end."""
     with open(script, "rb") as requests:
         streams = {"stdin": requests, "stdout": subprocess.DEVNULL, "stderr": subprocess.PIPE}
         ran = subprocess.run(["valgrind", *tool, *words], **streams)

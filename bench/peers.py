@@ -14,7 +14,7 @@ PEERS = {
     "lmdb": ["lmdb.c", "store.c", *COMMON, "-llmdb"],
 }
 
-# Who plays: a name for the table, and the words that it is run by.
+# A player: a name for the table, and the command that runs it.
 Player = collections.namedtuple("Player", "name words")
 
 
@@ -38,7 +38,7 @@ def has_lmdb():
 
 
 def all_peers(folder):
-    """The peers that there can be; one that there can't be is told."""
+    """The peers that are available; the others are reported."""
     names = list(PEERS)
     if not has_lmdb():
         print("bench: lmdb skipped: there is no lmdb.h (Debian: liblmdb-dev)")

@@ -1,28 +1,28 @@
-"""The eight scripts of the bench, each of about as many lines as one asks for.
+"""The eight scripts of the bench, each of about as many lines as requested.
 
-A script is the same in each run, and a longer one begins as the shorter one does, but for `many`.
-With each request stands how its reply has to begin: the numbers of transactions, calls and
-descriptors are known beforehand. Each call is granted, and fails only where that is meant.
+A script is the same in each run, and a longer one begins as the shorter one does, except `many`.
+Each request comes with the beginning of its reply: the numbers of transactions, calls and
+descriptors are known beforehand. Each call is granted, and fails only if that is meant.
 
-Nothing that was taken back is looked at again, but by a call that is there to see it gone: so a
-tree that takes nothing back answers all other lines alike.
+Nothing that was undone is looked at again, except by a call that is there to see it gone: so a
+tree that undoes nothing answers all other lines alike.
 """
 import random
 
-# How many lines a script has beside the others, where it has fewer.
+# How many lines a script has for one of the others, if it has fewer.
 SHARES = {"smalltx": 0.4, "rw": 0.2}
 
 WORDS = "a tree of files in memory that answers calls inside nested transactions".split()
 
 
 class Script:
-    """Requests, and how the reply to each has to begin."""
+    """Requests, and the beginning of the reply to each."""
 
     def __init__(self, name):
         self.chance = random.Random(name)
         self.requests = []
         self.replies = []
-        self.after_taking_back = set()  # the lines whose replies tell what was taken back
+        self.after_taking_back = set()  # the lines whose replies show what was undone
         self.transactions = 0
         self.stamp = 1
         self.stamps = {}  # of the calls of each transaction that can be undone
@@ -56,14 +56,14 @@ class Script:
         self.say(f"undo {transaction}", f"undone {self.stamps[transaction].pop()}")
 
     def ask(self, transaction, call, error=None):
-        """Makes a call, and answers its stamp, which is the descriptor of an `open`."""
+        """Makes a call, and returns its stamp, which is the descriptor of an `open`."""
         self.stamp += 1
         self.stamps[transaction].append(self.stamp)
         self.say(f"{transaction} {call}", f"{self.stamp} {error or 'ok'}")
         return self.stamp
 
     def see_gone(self, transaction, path):
-        """Looks for what was taken back."""
+        """Looks for what was undone."""
         self.after_taking_back.add(len(self))
         self.ask(transaction, f"stat {path}", "ENOENT")
 
@@ -251,7 +251,7 @@ def many(script, count):
 
 
 def end_steps(script, steps, paths):
-    """Commits most steps and aborts some; answers these, as jobs and paths."""
+    """Commits most steps and aborts some; returns these, as jobs and paths."""
     gone = []
     for (step, job), path in zip(steps, paths):
         if script.chance.random() < 9 / 10:
@@ -263,7 +263,7 @@ def end_steps(script, steps, paths):
 
 
 def undo(script, count):
-    """Calls that are taken back one by one: a third of all lines is an undo."""
+    """Calls that are undone one by one: a third of all lines is an undo."""
     job = script.begin()
     script.ask(job, "mkdir /undo")
     script.commit(job)
@@ -280,7 +280,7 @@ def undo(script, count):
 
 
 def try_and_undo(script, job, path, file):
-    """Five calls that are all taken back, the last one first, and one that is not."""
+    """Five calls that are all undone, the last one first, and one that is not."""
     script.ask(job, f"mkdir {path}.d")
     script.ask(job, f"pwrite {file} 200 {script.text(10)}")
     made = script.ask(job, f"open wcx {path}.f")

@@ -2,7 +2,7 @@
 
 
 def shown(rows):
-    """A table of rows of words, the first of them its head; numbers stand to the right."""
+    """A table of rows of words, the first of them its head; numbers are aligned to the right."""
     rows = list(rows)
     widths = [max(map(len, column)) for column in zip(*rows)]
     are_numbers = [all(map(is_number, column[1:])) for column in zip(*rows)]
@@ -15,7 +15,7 @@ def is_number(cell):
 
 
 def ruled(width, numbers):
-    """What stands below the head of a column."""
+    """The cells below the head of a column."""
     return "-" * (width - 1) + ":" if numbers else "-" * width
 
 

@@ -2,7 +2,7 @@
 FOLDER, and one of all of them.
 header.py rust HEADER..: writes what the crate nuzolged-sys declares of them.
 
-A header is read as it is laid out: a comment of two stars stands before its function and may end
+A header is read as it is laid out: a comment of two stars comes before its function and may end
 in @param, a comment that begins with ---- begins a section, and another belongs to what follows it.
 """
 from __future__ import annotations
@@ -13,7 +13,7 @@ from dataclasses import dataclass, field
 from pathlib import Path
 from typing import Iterator
 
-#: What a header has, in their order: comments, and what is declared or defined.
+#: The parts of a header, in their order: comments, and what is declared or defined.
 PARTS = re.compile(
     r"(?P<comment>/\*.*?\*/)"
     r"|(?P<define>^#define \w+(?:\(\w+\))?(?:\\\n|[^\n])*)"
@@ -243,7 +243,7 @@ def rust_variable(declared: str, is_member: bool = False) -> str:
 
 
 def rust_docs(text: str) -> Iterator[str]:
-    """A comment of Rust. What is meant for @param is a list."""
+    """A comment of Rust. The items of @param become a list."""
     said = PARAMETER.sub(r"- `\1`: ", text)
     for line in said.split("\n"):
         plain = re.sub(r"\b(nuz_\w+|NUZ_\w+)\b", r"`\1`", line)
@@ -286,7 +286,7 @@ def rust_struct(code: str) -> Iterator[str]:
 
 
 def one_line(comment: str) -> str:
-    """The text of a comment behind something."""
+    """The text of a comment after something."""
     return " ".join(re.sub(r"\n\s*\*? ?", " ", comment).split())
 
 
@@ -325,7 +325,7 @@ def rust_limits(value: str) -> str:
 
 
 def rust_part(part: Part) -> Iterator[str]:
-    """What is declared or defined, but for functions."""
+    """The declarations and definitions, except functions."""
     if part.kind == "struct":
         yield from rust_docs(part.text)
         yield from rust_struct(part.code)

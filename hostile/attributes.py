@@ -1,4 +1,4 @@
-"""Modes, owners and times by the operating system, and how replies tell them."""
+"""Modes, owners and times by the operating system, and their form in replies."""
 import ctypes
 import os
 import stat
@@ -8,7 +8,7 @@ import calls
 # The mode of what is made without one; a link has this one always.
 MODES = {"dir": 0o755, "file": 0o644, "link": 0o777}
 
-# What utimensat is told: paths are from the root, a last link is not followed, a time stays.
+# The arguments of utimensat: paths are from the root, a last link is not followed, a time stays.
 FROM_ROOT = -100
 OF_LINK = 0x100
 TIME_STAYS = (1 << 30) - 2
@@ -67,7 +67,7 @@ def owner_asked(owner):
 
 
 def told(info):
-    """The mode, owner and group as replies tell them."""
+    """The mode, owner and group as in replies."""
     return f"{mode_of(info):04o} {info.st_uid} {info.st_gid}"
 
 
@@ -76,11 +76,11 @@ def are_default(kind, info):
 
 
 def tail(kind, info):
-    """What stat tells behind the size: nothing of a link, whose attributes are not kept."""
+    """The end of a stat's reply, after the size: nothing for a link, which keeps none."""
     is_left = kind == "link" or are_default(kind, info)
     return "" if is_left else f" attributes {told(info)}"
 
 
 def time(info):
-    """The time of the bytes, as replies tell it."""
+    """The time of the bytes, as in replies."""
     return "{} {}".format(*divmod(info.st_mtime_ns, 10**9))

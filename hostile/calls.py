@@ -50,7 +50,7 @@ KINDS = {"E": "file", "G": "dir", "L": "link"}
 
 NAMES = [b"a", b"b", b"c", b"a", b"b", b"c", b"%", b"\xc3\xa9 x"]
 
-# More than a directory has without an index; many begin alike, and some are just too long to stand
+# More than a directory has without an index; many begin alike, and some are just too long to be
 # in place.
 MANY_NAMES = (
     [b"a", b"b", b"c"]
@@ -82,7 +82,7 @@ ODD_PATHS = [
     b"/b" * 20 + b"/c" * 20,
 ]
 
-# Targets of links that lead up, to where the link stands, to many names, or nowhere.
+# Targets of links that lead up, to the directory of the link, to many names, or nowhere.
 ODD_TARGETS = [
     b"",
     b".",
@@ -124,7 +124,7 @@ STAYS = "-"
 LAST_OWNER = 2**32 - 2
 OWNERS = [STAYS, STAYS, 0, 0, 1, 1000, 2**31, LAST_OWNER]
 
-# Far from now, so that no clock tells them; the very first and the very last second are left out,
+# Far from now, so that no clock gives them; the very first and the very last second are left out,
 # of which Linux keeps no nanoseconds.
 SECONDS = [0, 1, -1, 1_000_000_000, -1_000_000_000, 2**32, 2 - 2**63, 2**63 - 2]
 NANOSECONDS = [0, 0, 1, 500_000_000, 999_999_999]
@@ -168,7 +168,7 @@ def coded(data):
     return "".join(map(CODES.__getitem__, data))
 
 
-# The calls that look a last link up itself, and change nothing of where it stands.
+# The calls that look a last link up itself, and change nothing in its directory.
 OF_LINKS = ["lstat", "readlink", "lchown", "lutime"]
 
 # What each of these calls makes; a further name is of what the first path leads to.
@@ -213,14 +213,14 @@ class Paths:
         return self.kinds.get(path) == "link" and call.verb not in OF_LINKS
 
     def move(self, old, new):
-        """What stood at or below the old path stands there below the new one."""
+        """Moves the things at or below the old path below the new one."""
         for path in list(self.kinds):
             if path == old or path.startswith(old + b"/"):
                 self.kinds[new + path[len(old) :]] = self.kinds.pop(path)
 
 
 def plain(path):
-    """A path from the root without empty names, or nothing where it has dots or no name."""
+    """A path from the root without empty names, or nothing if it has dots or no name."""
     names = [name for name in path.split(b"/") if name]
     return b"" if {b".", b".."} & set(names) else b"".join(b"/" + name for name in names)
 
@@ -241,7 +241,7 @@ class Chooser:
         return Call(verb, tuple(self.argument(kind) for kind in VERBS[verb][0]))
 
     def learn(self, call, reply, stamp):
-        """Takes note of a call that has been answered: of paths, and of descriptors."""
+        """Takes note of a call that has a reply: of paths, and of descriptors."""
         self.known.learn(call, reply)
         if reply.startswith("ok"):
             if call.verb == "open":
@@ -324,7 +324,7 @@ class Chooser:
         return path + b"/" + self.random.choice(self.names)
 
     def through(self, path):
-        """The last name of a path behind a link, or behind a circle, which is followed often."""
+        """The last name of a path after a link, or after a circle, which is followed often."""
         link = self.random.choice(self.known.that_are("link") or [b""])
         circles = self.known.circles()
         if circles and self.random.random() < 0.5:
@@ -333,7 +333,7 @@ class Chooser:
         return link + path[path.rfind(b"/") :]
 
     def dotted(self, path):
-        """With a name, or two, that lead back or nowhere, in the path or behind it."""
+        """With a name, or two, that lead back or nowhere, in the path or after it."""
         pieces = path.split(b"/")
         at = self.random.randrange(len(pieces) + 1)
         added = self.random.choice([b".", b"..", b"a/..", b"b/../.", b""])

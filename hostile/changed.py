@@ -1,7 +1,7 @@
-"""Directories that somebody else changes while they are loaded: something comes in the place of what
+"""Directories that somebody else changes while they are loaded: something replaces the thing that
 was found, right before each call of the program in turn, for good and for that call alone.
 
-Nothing that stands outside the directory may come into the script, and no file, directory or link
+Nothing outside the directory may come into the script, and no file, directory or link
 may be one half what was there and the other half what has come.
 """
 import itertools
@@ -144,7 +144,7 @@ def fifo(kit, program, work, preload):
 
 
 def fifo_before(program, top, place, environment):
-    """What a load says that may wait for a FIFO; None where it does so at a directory."""
+    """The output of a load that may wait for a FIFO; None if it waits at a directory."""
     run = subprocess.Popen([program, "load", top], env=dict(os.environ, **environment),
                            stdout=subprocess.DEVNULL, stderr=subprocess.PIPE)
     ended = threading.Event()

@@ -1,14 +1,14 @@
 """Where the program goes by POSIX.1-2017, or a choice that POSIX leaves free, and Linux does not.
 
-Each rule tells of which step it is: the call, the two answers, and what its paths lead to. A
-difference of which no rule tells is a fault.
+Each rule describes its step: the call, the two answers, and what its paths lead to. A
+difference that no rule describes is a fault.
 """
 import collections
 
 import calls
 import system
 
-# What a walk may come to beside ENOENT and ENOTDIR: a loop of links, and a target's text.
+# The outcomes of a walk besides ENOENT and ENOTDIR: a loop of links, and a target's text.
 WALK = "ENOENT,ENOTDIR,ELOOP,ENAMETOOLONG"
 
 LONGEST_PATH = 4095
@@ -41,7 +41,7 @@ def asked_otherwise(what):
 
 
 def text_fault(step):
-    """The error that the text of a path is answered with, or nothing."""
+    """The error for the text of a path, or nothing."""
     for path in step.call.paths():
         if path == b"":
             return "ENOENT"
@@ -75,7 +75,7 @@ def ends_in_dots(step):
 
 
 def last_name_fault(step):
-    """The error of rmdir and rename that the last names of their paths tell, or nothing."""
+    """The error of rmdir and rename for the last names of their paths, or nothing."""
     if step.call.verb == "rmdir" and last_name(step.call.arguments[0]) == b"..":
         return "ENOTEMPTY"
     if ends_in_dots(step):
@@ -88,7 +88,7 @@ def last_names_come_first(step):
 
 
 def makes_with_slash(step):
-    """Whether a call opens a name with a slash behind it and may make it, with the right error."""
+    """Whether a call opens a name with a slash after it and may make it, with the right error."""
     flags, path = step.call.arguments
     exists = "EEXIST" if "x" in flags else "EISDIR"
     wanted = exists if step.kinds == ["dir"] else step.kinds[0]
@@ -97,7 +97,7 @@ def makes_with_slash(step):
 
 
 def was_followed(step):
-    """Whether a slash stands behind the name of a link, so that only here it is followed."""
+    """Whether a slash follows the name of a link, so that only here it is followed."""
     return step.met == system.FOLLOWED
 
 
@@ -136,7 +136,7 @@ def has_too_many_nanoseconds(step):
 
 
 def is_directory_to_file(step):
-    """Whether a rename is of a directory to a file's name, with a slash behind it or without."""
+    """Whether a rename is of a directory to a file's name, with a slash after it or without."""
     return step.kinds in (["dir", "file"], ["dir", "ENOTDIR"])
 
 
@@ -320,5 +320,5 @@ RULES = [
 
 
 def rule_of(step):
-    """The rule that tells of a step, or nothing."""
+    """The rule that describes a step, or nothing."""
     return next((rule for rule in RULES if rule.applies(step)), None)

@@ -33,7 +33,7 @@ AROUND = {"a1": "a", "a2": "a"}
 # How often the plan is run as it is.
 TIMES = 20
 
-# How many milliseconds a thread waits at first, where it is seen whether the program waits for it.
+# How many milliseconds a thread waits at first, if it is seen whether the program waits for it.
 DELAY = 300
 
 
@@ -84,7 +84,7 @@ def refused_memory_for_good(bench):
 
 
 def fault_of_refusals(bench, settings):
-    """Each allocation: the run ends well, or for want of memory or of a thread."""
+    """Each allocation: the run ends well, or for lack of memory or of a thread."""
     plan = Plan(bench)
     for number in bench.part(range(1, sys.maxsize)):
         ran, counts = plan.run(allocation=number, **settings)
@@ -126,7 +126,7 @@ def fault_of_threads_refused(bench, settings):
 
 
 def fault_of_text(ran):
-    """Why a text is not what jobs come to that commit, are refused or not started, or nothing."""
+    """Why a text is not the outcome of jobs that commit, are refused or not started, or nothing."""
     lines = ran.text.decode().splitlines()
     ends = {}
     for line in lines[: len(MADE)]:
@@ -152,7 +152,7 @@ def call_of(line):
 
 
 def stands(ends):
-    """The jobs whose work stands: those that have committed, and the one around them too."""
+    """The jobs whose work stays: those that have committed, and the one around them too."""
     return [job for job in ends if ends[job] == ends[AROUND.get(job, job)] == "committed"]
 
 

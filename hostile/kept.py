@@ -1,6 +1,6 @@
-"""Modes, owners and times through load, play and save: what is kept, and what is told of the rest.
+"""Modes, owners and times through load, play and save: what is kept, and the report of the rest.
 
-What needs the superuser is left out for others.
+Tests that need the superuser are left out for others.
 """
 import ctypes
 import os
@@ -12,7 +12,7 @@ DROP_CAPABILITY, CHOWN = 24, 0
 SET_ID = stat.S_ISUID | stat.S_ISGID
 OTHER = 1000
 IS_ROOT = os.geteuid() == 0
-# right behind the Epoch, with nanoseconds, and behind 32 bits
+# right after the Epoch, with nanoseconds, and beyond 32 bits
 TIMES = [1, 1_234_567_890_123_456_789, 4_294_967_296_000_000_007]
 
 
@@ -76,7 +76,7 @@ def replies_of(kit, program, top, *words):
 
 
 def rounds(kit, program, work):
-    """What a directory has comes back, whatever the umask; set-id bits where they are asked for."""
+    """What a directory has comes back, whatever the umask; set-id bits if they are asked for."""
     top, out = f"{work}/modes", f"{work}/modes out"
     make_modes(top)
     with_set_id = replies_of(kit, program, top, "--set-id")
@@ -98,8 +98,8 @@ def rounds(kit, program, work):
 
 
 def by_others(kit, program, work, given):
-    """What others than the superuser save they own, and nothing is told; set-id bits are kept only
-    where the owners are those of the tree."""
+    """What others than the superuser save they own, and it is silent; set-id bits are kept only
+    if the owners are those of the tree."""
     folder = f"{work}/of others"
     os.mkdir(folder)
     os.chown(folder, OTHER, OTHER)
@@ -128,14 +128,14 @@ def by_others(kit, program, work, given):
         is_so = is_so and held[b"/d/b"][:3] == (0o755, OTHER, OTHER)
         kit.check("a save by others", ran.status == 0 and not ran.err and is_so, (ran.err, held))
         remove(out)
-    # modes are given, and then something stands in its place
+    # modes are given, and then something else is in its place
     ran = kit.Ran(program, ["save", out], given, as_other)
     kit.check("a large save by others", ran.status == 0 and not ran.err, ran.err)
     remove(out)
 
 
 def refused_owners(kit, program, work, given):
-    """Owners that the system lets nobody set are told of once, and all else is kept."""
+    """Owners that the system lets nobody set are reported once, and all else is kept."""
     out = f"{work}/refused owners"
 
     def without_chown():
@@ -169,7 +169,7 @@ def refused_owners(kit, program, work, given):
 
 
 def times(kit, program, work):
-    """A time that can't be kept is told, and none before the Epoch can; files without one get that
+    """A time that can't be kept is named, and none before the Epoch can; files without one get that
     of the save, all the same."""
     out = f"{work}/times"
     for seconds in (-(2 ** 63), -(2 ** 40), -1, 0, 2 ** 34, 2 ** 40, 2 ** 63 - 1):
@@ -194,7 +194,7 @@ def times(kit, program, work):
 
 
 def refused_rows(kit, program, work):
-    """Rows that tell of no mode, no owner or no time are rows of no tree."""
+    """Rows that have no mode, no owner or no time are rows of no tree."""
     out = f"{work}/refused rows"
     wrong = [b"attributes 2 0644 0", b"attributes 2 8 0 0", b"attributes 2 10000 0 0"]
     wrong += [b"attributes 2 0644 - 0", b"attributes 2 0644 0 4294967296"]
@@ -208,7 +208,7 @@ def refused_rows(kit, program, work):
 
 
 def removed(kit, program, work):
-    """What was begun is removed where a directory in it had its mode already."""
+    """What was begun is removed, even if a directory in it had its mode already."""
     out = f"{work}/removed"
     late = kit.told(
         b"dir 1", b"dir 2", b"edge 1 d 2", b"edge 2 f 3", b"edge 1 l 4", b"file 3 1 x",
@@ -223,7 +223,7 @@ def all_of(kit, program, work):
     given = rounds(kit, program, work)
     if IS_ROOT:
         os.chmod(work, 0o755)
-        # (others may not get at the program where it stands)
+        # (others may not get at the program in its place)
         by_others(kit, shutil.copy(program, f"{work}/ft_run"), work, given)
         refused_owners(kit, program, work, given)
     times(kit, program, work)

@@ -1,12 +1,12 @@
-"""Where symbolic links of the operating system lead, and what it is asked for that."""
+"""The targets of symbolic links of the operating system, and how it is asked for them."""
 import errno
 import os
 import re
 
 import calls
 
-# The paths of each call, counted from 0, that by Linux lead to a last link itself, also where a
-# slash is behind it.
+# The paths of each call, counted from 0, that by Linux lead to a last link itself, even if a
+# slash follows it.
 TO_LINKS = {
     "mkdir": [1],
     "rmdir": [0],
@@ -18,7 +18,7 @@ TO_LINKS = {
 
 
 def asked_of(call):
-    """The call with what links lead to in place of their names with a slash behind them."""
+    """The call with what links lead to in place of their names with a slash after them."""
     places = TO_LINKS.get(call.verb, [])
     arguments = [
         behind_links(argument) if at in places else argument
@@ -28,7 +28,7 @@ def asked_of(call):
 
 
 def behind_links(path):
-    """The path that stands behind a link's name with a slash behind it; another is left."""
+    """The path after a link's name with a slash; another path is left."""
     if not path.endswith(b"/") or not os.path.islink(path.rstrip(b"/")):
         return path
     if is_loop(path):

@@ -1,7 +1,7 @@
 """Refused memory: each case script with each of its allocations refused.
 
-The program either ends with 'fault: Memory' behind a beginning of the right text, or it refuses
-one request for want of memory and answers the others as if that one had not been made, or it does
+The program either ends with 'fault: Memory' after a beginning of the right text, or it refuses
+one request for lack of memory and answers the others as if that one had not been made, or it does
 without. A read gives one line, so that the reply to it is written before the next one is read, and
 the allocations between two writes are those of a line.
 """
@@ -17,7 +17,7 @@ MORE = 3
 # A text begins with room for so many bytes, and has twice as many whenever it is full.
 TEXT_ROOM = 8
 
-# What takes no memory but for its text.
+# Requests that take no memory except for their text.
 TAKES_NONE = (b"commit ", b"abort ", b"undo ", b"drop ")
 
 
@@ -61,7 +61,7 @@ class Refusals:
         return self.play(scripts.script_of(requests), **settings)
 
     def fault_of_counts(self):
-        """That what takes no memory makes no allocation, but for its reply and a longer line."""
+        """Requests that take no memory make no allocation, except for a reply and a longer line."""
         _, counts = self.played(self.requests)
         for at, request in list(enumerate(self.requests))[1:]:
             made = counts.notes[at] - counts.notes[at - 1]
@@ -118,7 +118,7 @@ class Refusals:
         return None
 
     def fault_of_again(self, at, number):
-        """Reports right before and behind a refusal are the same; made again it is answered."""
+        """Reports right before and after a refusal are the same; made again it is answered."""
         request = self.requests[at]
         looked = scripts.REPORTS + [request] + scripts.REPORTS
         requests = self.requests[:at] + looked + [request] + self.requests[at + 1 :]
@@ -135,7 +135,7 @@ class Refusals:
         return scripts.first_difference(others, self.replies)
 
     def fault_of_abort(self, at, number):
-        """An abort of the asker right behind a refusal leaves what it does without that one."""
+        """An abort of the asker right after a refusal leaves what it does without that one."""
         asker = asker_of(self.requests[at])
         if asker is None:
             return None
@@ -161,7 +161,7 @@ def made_for_text(reply):
 
 
 def fault_of_broken_off(ran, whole):
-    """Why a run that has ended early has not ended as want of memory ends it, or nothing."""
+    """Why a run that has ended early has not ended as lack of memory ends it, or nothing."""
     if (ran.status, ran.errors) != (1, b"fault: Memory\n"):
         return f"status {ran.status}, {ran.errors!r}"
     if not scripts.is_cut_at_reply(ran.text, whole):
@@ -172,7 +172,7 @@ def fault_of_broken_off(ran, whole):
 def fault_of_no_refusal(ran, replies, at, right):
     """Why a run whose request was to be refused, and was not, is not as it may be, or nothing.
 
-    It has to end for want of memory before the reply to that, or to give the right one.
+    It must end for lack of memory before the reply to that, or to give the right one.
     """
     if ran.status != 0:
         is_so = (ran.status, ran.errors, len(replies)) == (1, b"fault: Memory\n", at)

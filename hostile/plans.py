@@ -72,7 +72,7 @@ def some_jobs(chance):
 
 
 def some_steps(chance, has_subjobs):
-    """Calls, most of them tried, and the steps that a job has to have."""
+    """Calls, most of them tried, and the steps that a job must have."""
     calls = [chance.choice(CALLS).format(chance.choice(PATHS)) for _ in range(chance.randint(0, 4))]
     steps = ["try " + call if chance.random() < 0.7 else call for call in calls]
     if has_subjobs:
@@ -93,7 +93,7 @@ def text_of(jobs):
 
 
 def told_by(jobs, text):
-    """For each job what the program tells of it."""
+    """For each job the program's report."""
     lines = text.splitlines()
     calls = collections.defaultdict(list)
     for line in lines[len(jobs) + 1 :]:
@@ -145,7 +145,7 @@ def fault_of_job(job, jobs, told):
 
 
 def fault_of_failure(job, mine, has_failed, is_spared):
-    """Why a job can't have failed as it is told to, or nothing."""
+    """Why a job can't have failed as reported, or nothing."""
     before = job.steps[: int(mine.end.removeprefix("failed ")) - 1]
     step = job.steps[len(before)]
     if step == "subs":
@@ -163,7 +163,7 @@ def is_before(other, mine):
 
 
 def may_be_unstarted(job, jobs, told):
-    """Whether its parent did not come to its subjobs, or one before it has not committed."""
+    """Whether its parent did not reach its subjobs, or one before it has not committed."""
     if any(told[name].end != "committed" for name in job.after):
         return True
     around = next((other for other in jobs if other.name == job.parent), None)

@@ -10,7 +10,7 @@ Run = collections.namedtuple("Run", "status text errors")
 
 
 def run(words, script=b"", environment=None):
-    """Runs a program with its words; raises TimeoutExpired where it does not end."""
+    """Runs a program with its words; raises TimeoutExpired if it does not end."""
     file = tempfile.TemporaryFile
     with file() as given, file() as text, file() as errors:
         given.write(script)
@@ -26,7 +26,7 @@ def written(file):
 
 
 def fault_of(ran, wanted):
-    """Why a run that has to end well with this text has not, or nothing."""
+    """Why a run that must end well with this text has not, or nothing."""
     if ran.status != 0:
         return f"status {ran.status}, {ran.errors!r}"
     if ran.text != wanted:
@@ -35,7 +35,7 @@ def fault_of(ran, wanted):
 
 
 def fault_of_end(ran, wanted, name):
-    """Why a run that has to end with this text and this fault has not, or nothing."""
+    """Why a run that must end with this text and this fault has not, or nothing."""
     if (ran.status, ran.errors) != (1, f"fault: {name}\n".encode()):
         return f"expected fault {name}, got status {ran.status}, {ran.errors!r}"
     if ran.text != wanted:

@@ -1,4 +1,4 @@
-"""Saves that are refused memory: what was begun is taken away, also where there is none left."""
+"""Saves that are refused memory: what was begun is removed, even if there is none left."""
 import os
 import sys
 import tempfile

@@ -15,7 +15,7 @@ REPLY = re.compile(
     rb"|\d+ E[A-Z]+)\n"
 )
 
-# How many lines a reply has behind its first one, which tells N of them.
+# How many lines a reply has after its first one, which has their number N.
 LINES_BEHIND = {b"tree": 0, b"locks": 0, b"attributes": 0, b"edges": 1}
 
 
@@ -99,7 +99,7 @@ def is_one_reply(text):
 
 
 def is_cut_at_reply(text, whole):
-    """Whether a text is the beginning of the whole one, and breaks off behind a reply of it."""
+    """Whether a text is the beginning of the whole one, and breaks off after a reply of it."""
     ends = {0}
     for reply in replies_of(whole):
         ends.add(max(ends) + len(reply))
@@ -107,7 +107,7 @@ def is_cut_at_reply(text, whole):
 
 
 def first_difference(got, wanted):
-    """Where two lists differ first, in words, or nothing."""
+    """The first difference of two lists, in words, or nothing."""
     for number, (one, other) in enumerate(zip(got, wanted), 1):
         if one != other:
             return f"reply {number}: expected {other!r}, got {one!r}"

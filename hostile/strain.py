@@ -1,4 +1,4 @@
-"""Long lines, the most transactions and calls, and scripts that have to be linear."""
+"""Long lines, the most transactions and calls, and scripts that must be linear."""
 import re
 import shutil
 
@@ -34,7 +34,7 @@ def lasting_tests():
 
 
 def tests_of_growth():
-    """What is counted, where there is what counts."""
+    """The count, if there is a tool that counts."""
     if shutil.which(COUNTER[0]) is None:
         print(f"hostile: growth skipped: there is no {COUNTER[0]}")
         return []
@@ -45,7 +45,7 @@ def tests_of_growth():
 
 
 def transactions_as_deep_as_may_be(bench):
-    """So many transactions inside one another are told, and end from the innermost on or at once."""
+    """So many transactions in one another are listed, and end from the innermost on or at once."""
     numbers = range(1, GREATEST_DEPTH + 1)
     begun = b"begin\n" + b"".join(b"sub %d\n" % number for number in numbers)
     told = b"".join(b"txn %d\n" % number for number in numbers) + b"refused Deep\n"
@@ -78,7 +78,7 @@ def fault_of_comment(bench, ending, end_of_script):
 
 
 def longest_request(bench):
-    """The same of a line that asks for something: what a file has room for is written."""
+    """The same of a line with a request: the bytes that have room in a file are written."""
     opened = b"begin\n1 open wc /f\n"
     request = b"1 write 2 "
     request += b"x" * (LONGEST_LINE - len(request))
@@ -90,7 +90,7 @@ def longest_request(bench):
 
 
 class Expected:
-    """A script, and what has to be written for it."""
+    """A script, and the expected output."""
 
     def __init__(self):
         self.requests = []
@@ -109,7 +109,7 @@ class Expected:
 
 
 def transactions_are_full_until_a_checkpoint(bench):
-    """All transactions that there may be, and as many again behind a checkpoint: numbers go on."""
+    """All transactions that there may be, and as many again after a checkpoint: numbers go on."""
     script = Expected()
     for first in (1, MOST_TRANSACTIONS + 1):
         last = first + MOST_TRANSACTIONS - 1

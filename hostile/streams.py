@@ -60,7 +60,7 @@ def fault_of_cut(bench, case, end):
 
 
 def split_behind_lines(script):
-    """A script's whole lines, and what is left behind them."""
+    """A script's whole lines, and what is left after them."""
     end = script.rfind(b"\n") + 1
     return script[:end], script[end:]
 
@@ -71,7 +71,7 @@ def text_before(case, script):
 
 
 def read_fails(bench, case):
-    """A read that fails at each byte: what stands before it is answered, and no more."""
+    """A read that fails at each byte: the lines before it are answered, and no more."""
     for number in range(1, len(case.script) + 2):
         how = {"read": number, "read_how": "fail", "read_bytes": 1}
         ran, _ = bench.unkind.run(["play"], case.script, **how)
@@ -114,7 +114,7 @@ def reads_are_interrupted(bench, case):
 
 
 def interrupted_for_ever(bench):
-    """Where each read behind a line is interrupted, the reads are used up."""
+    """If each read after a line is interrupted, the reads are used up."""
     script = b"begin\n"
     how = {"read": len(script) + 1, "read_on": 1, "read_how": "interrupt", "read_bytes": 1}
     ran, _ = bench.unkind.run(["play"], script, **how)

@@ -1,5 +1,5 @@
 /* A library that is loaded before the C library (LD_PRELOAD), and at one call of a program that
-   looks at a path or opens one puts something else in the place of what stands at a path.
+   looks at a path or opens one puts something else in the place of the thing at a path.
 
    SWAP_NUMBER    the number of the call before which that is done, from 1
    SWAP_PLACE     the path

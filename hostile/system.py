@@ -60,7 +60,7 @@ class OpenFile:
 
 
 class File(collections.namedtuple("File", "row info")):
-    """The row of a file or link in the report on the tree, and what the system tells of it."""
+    """The row of a file or link in the report on the tree, and the system's report of it."""
 
     def is_regular(self):
         return stat.S_ISREG(self.info.st_mode)
@@ -183,7 +183,7 @@ class System:
         return self.append(number, data)
 
     def append(self, number, data):
-        """Appends from the offset 0, which comes to the same."""
+        """Appends from the offset 0, which has the same effect."""
         offset = os.lseek(number, 0, os.SEEK_CUR)
         os.lseek(number, 0, os.SEEK_SET)
         try:
@@ -290,7 +290,7 @@ class System:
         return self.give(number, owner, group)
 
     def give(self, target, owner, group):
-        """Sets the owner and the group, and the mode again where that has changed it."""
+        """Sets the owner and the group, and the mode again if that has changed it."""
         mode = attributes.mode_of(os.stat(target))
         os.chown(target, *map(attributes.owner_asked, (owner, group)))
         if attributes.mode_of(os.stat(target)) != mode:
@@ -317,7 +317,7 @@ class System:
         return "ok"
 
     def note_time(self, info):
-        """Takes note of the time that a file has: those of directories and links are not told."""
+        """Takes note of the time that a file has: directories and links show none."""
         if stat.S_ISREG(info.st_mode):
             self.times[info.st_ino] = info.st_mtime_ns
 
@@ -391,7 +391,7 @@ def kind_of(info):
 
 
 def size_of(path):
-    """How many bytes a file has; nothing where there is none."""
+    """How many bytes a file has; nothing if there is none."""
     try:
         return os.stat(path).st_size
     except OSError:
@@ -415,7 +415,7 @@ def coded_name(entry):
 
 
 def found(number, entry):
-    """What stands at an entry that is no directory."""
+    """The thing at an entry that is no directory."""
     if entry.is_symlink():
         row = f"link {number} {calls.coded(os.readlink(entry.path))}"
     else:

@@ -1,10 +1,10 @@
-"""What is known of transactions from outside: who is live, and which calls stand."""
+"""Transactions as seen from outside: which ones are live, and which calls are standing."""
 
 MOST_DEPTH = 64
 
 
 class Transaction:
-    """A transaction: the one around it, what has become of it, and its calls that stand."""
+    """A transaction: the one around it, what has become of it, and its standing calls."""
 
     def __init__(self, number, parent):
         self.number = number
@@ -25,7 +25,7 @@ class Transaction:
 
 
 class Transactions:
-    """All transactions since the last checkpoint, and all calls that stand."""
+    """All transactions since the last checkpoint, and all standing calls."""
 
     def __init__(self):
         self.last = 0
@@ -54,7 +54,7 @@ class Transactions:
         return self.refusal_of_undo(one) if request == "undo" else None
 
     def refusal_of_undo(self, one):
-        """A call is taken back only where no child has committed since."""
+        """A call is undone only if no child has committed since."""
         if one.child_committed_after is None:
             return None if one.stamps else "NothingToUndo"
         is_later = one.stamps and one.stamps[-1] > one.child_committed_after
@@ -78,7 +78,7 @@ class Transactions:
         self.known[number].pending = None
 
     def undo(self, number):
-        """Takes back the last of the transaction's calls, and answers its stamp."""
+        """Undoes the last of the transaction's calls, and returns its stamp."""
         stamp = self.known[number].stamps.pop()
         del self.standing[stamp]
         return stamp

@@ -1,6 +1,6 @@
 /* A library that is loaded before the C library (LD_PRELOAD) and is unkind to a program: it
    refuses memory and threads, and fails, shortens or interrupts reads of standard input and
-   writes of standard output. What it does stands in the environment; with nothing there it only
+   writes of standard output. Environment variables say what it does; without them it only
    counts.
 
    UNKIND_COUNTS           a file that takes what is counted (struct counts)
@@ -10,7 +10,7 @@
    UNKIND_READ_HOW         fail, interrupt or nothing
    UNKIND_READ_EVERY       each read whose number is a multiple of this is interrupted
    UNKIND_READ_BYTES       the most bytes that a read gives
-   UNKIND_READ_LINE        with any value: a read gives nothing behind a line feed
+   UNKIND_READ_LINE        with any value: a read gives nothing after a line feed
    UNKIND_WRITE            the number of the write that UNKIND_WRITE_HOW is done to
    UNKIND_WRITE_HOW        fail, interrupt or nothing
    UNKIND_WRITE_BYTES      the most bytes that a write takes
@@ -18,7 +18,7 @@
    UNKIND_THREAD_DELAY     so many milliseconds a thread waits before it does anything
 
    UNKIND_ALLOCATION, UNKIND_READ, UNKIND_WRITE and UNKIND_THREAD each mean just that one; with
-   _ON behind the name and any value, as UNKIND_ALLOCATION_ON=1, that one and all later ones. */
+   _ON after the name and any value, as UNKIND_ALLOCATION_ON=1, that one and all later ones. */
 #define _GNU_SOURCE
 #include <dlfcn.h>
 #include <errno.h>
@@ -152,7 +152,7 @@ void _exit(int status) {
   __builtin_unreachable();
 }
 
-/* Counts an allocation, and tells whether it is refused. */
+/* Counts an allocation, and returns whether it is refused. */
 static int is_refused(void) {
   if (!is_ready) return 0;
   uint64_t number = next(&counts->allocations);

@@ -33,7 +33,7 @@ static uint32_t copied_out(nuz_tree *tree, const char *to, const nuz_copy_option
     return code;
 }
 
-/* The flags of the words before the last two; UINT32_MAX where one is none. */
+/* The flags in the words before the last two; UINT32_MAX if one is no flag. */
 static uint32_t flags_of(int argc, char **argv) {
     uint32_t flags = 0;
     for (int i = 1; i < argc - 2; i++) {

@@ -4,7 +4,7 @@
  *     copy_test FOLDER
  *
  * FOLDER is an empty directory to work in. The last line is 'N passed, M failed', and the status is
- * 0 where none failed.
+ * 0 if none failed.
  *
  * It is linked with --wrap for the functions of the system by which a copy works, so that a test
  * can do something right before one of them, or have it fail.
@@ -658,7 +658,7 @@ static bool nothing_is_written_through_a_link(void) {
     return removed(at("victim"));
 }
 
-/* ---- who else may see it meanwhile */
+/* ---- others that may see it meanwhile */
 
 static bool was_open;
 
@@ -929,7 +929,7 @@ typedef struct other {
     unsigned requests, waits;
 } other;
 
-/* Ends the other transaction where a request waits, and makes it again. */
+/* Ends the other transaction if a request waits, and makes it again. */
 static uint32_t around(void *context, nuz_copy_request *make, void *request) {
     other *other = context;
     uint32_t code = make(other->job->tree, request);

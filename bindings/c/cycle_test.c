@@ -1,6 +1,6 @@
 /* Tries the function of nuzolged_cycle.h.
  *
- * The last line is 'N passed, M failed', and the status is 0 where none failed. It is linked with
+ * The last line is 'N passed, M failed', and the status is 0 if none failed. It is linked with
  * --wrap=malloc and --wrap=realloc, so that memory runs out when a test says so.
  */
 #include <nuzolged_cycle.h>
@@ -10,7 +10,7 @@
 
 static nuz_answer answer;
 
-/* Opens a tree, and carries out lines, with a semicolon behind each: none is refused. */
+/* Opens a tree, and carries out lines, each with a semicolon after it: none is refused. */
 static bool opened(nuz_tree **tree, uint32_t options, const char *lines) {
     bool is_good = nuz_tree_open(tree, options) == 0;
     for (const char *at = lines; is_good && *at != '\0';) {
@@ -52,7 +52,7 @@ static bool each_member_comes_first(void) {
     return true;
 }
 
-/* Who waits for a member, who has nothing to do with it, and who is no transaction. */
+/* A transaction that waits for a member, one that is not connected to it, and none. */
 static bool others_have_none(void) {
     nuz_tree *t;
     CHECK(opened(&t, 0, RING) && nuz_begin(t, &answer) == 0 && nuz_begin(t, &answer) == 0);
@@ -72,7 +72,7 @@ static bool deadlocks_are_told_apart(void) {
     return true;
 }
 
-/* A transaction on two cycles: of the shorter one it is told. */
+/* A transaction on two cycles: the shorter one is reported. */
 static bool shortest_is_told(void) {
     nuz_tree *t;
     CHECK(opened(&t, 0, "begin;1 mkdir /d;commit 1;begin;begin;begin;"

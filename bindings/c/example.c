@@ -1,4 +1,4 @@
-/* One job with two steps, of which the first fails and leaves nothing behind. */
+/* One job with two steps. The first step fails and leaves nothing. */
 #include <nuzolged.h>
 
 #include <inttypes.h>

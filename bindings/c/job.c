@@ -133,7 +133,7 @@ static action action_of(const char *word) {
 
 /* ---- steps */
 
-/* Gives up: nothing of a job of which this is answered can be told. */
+/* Gives up: this job can't go on after such an answer. */
 static void give_up(const char *what, uint32_t code) {
     fprintf(stderr, "job: %s: %s\n", what, nuz_strerror(code));
     exit(2);
@@ -177,7 +177,7 @@ static void begin_step(job *job, const char *name) {
     snprintf(job->name, sizeof job->name, "%s", name);
 }
 
-/* Carries out a line. Those behind the failure of a step are passed over. */
+/* Carries out a line. Lines after the failure of a step are passed over. */
 static void do_line(job *job, char *line) {
     line[strcspn(line, "\n")] = '\0';
     char *word = strtok(line, " ");
@@ -207,7 +207,7 @@ static void do_line(job *job, char *line) {
 
 /* ---- the tree that is left */
 
-/* Prints the bytes of a file behind its name. */
+/* Prints the bytes of a file after its name. */
 static void print_file(job *job, const char *path) {
     static char bytes[LONGEST_FILE];
     size_t len;
@@ -220,7 +220,7 @@ static void print_file(job *job, const char *path) {
 
 static void print_below(job *job, const char *path);
 
-/* Prints what a name of a directory leads to, whose kind stands before it. The path of the
+/* Prints what a name of a directory leads to. The kind comes before the name. The path of the
  * directory ends with a slash. */
 static void print_entry(job *job, const char *directory, const char *entry) {
     char path[LONGEST_LINE];

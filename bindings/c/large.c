@@ -1,9 +1,9 @@
-/* What is large: a file of 3 GB, 5,000,000 calls in one transaction, and 4,096 transactions inside
+/* Large things: a file of 3 GB, 5,000,000 calls in one transaction, and 4,096 transactions inside
  * each other, in the memory that the shell allows.
  *
  *     (ulimit -v 4194304; large)
  *
- * The last line is 'N passed, M failed', and the status is 0 where none failed.
+ * The last line is 'N passed, M failed', and the status is 0 if none failed.
  */
 #include <nuzolged.h>
 
@@ -12,7 +12,7 @@
 /* The answer that a function fills in. */
 static nuz_answer last_answer;
 
-/* What a function answers, which is given these arguments. */
+/* The answer of a function to these arguments. */
 #define ASK(function, ...) (function(__VA_ARGS__, &last_answer), last_answer)
 
 /* Makes a file, which is open then. */
@@ -58,7 +58,7 @@ static bool is_whole(nuz_tree *t, uint64_t txn, uint64_t fd) {
     return true;
 }
 
-/* Cuts the file in the middle of a page, and takes that back. */
+/* Cuts the file in the middle of a page, and undoes that. */
 static bool is_cut_and_undone(nuz_tree *t, uint64_t txn, uint64_t fd) {
     const uint64_t cut = SIZE / 3 + 5;
     uint8_t none[1];

@@ -1,9 +1,9 @@
 /* Memory that a tree takes, and that it does not: for bytes that are read or find no room, for
- * files that a checkpoint goes on with, and for transactions that have ended beside one that goes
+ * files that a checkpoint goes on with, and for transactions that have ended while another one goes
  * on.
  *
- * The last line is 'N passed, M failed', and the status is 0 where none failed. It needs glibc,
- * which tells how much of its memory is in use.
+ * The last line is 'N passed, M failed', and the status is 0 if none failed. It needs glibc, which
+ * reports how much of its memory is in use.
  */
 #include <nuzolged.h>
 
@@ -47,7 +47,7 @@ static bool reads_take_none(void) {
     return true;
 }
 
-/* Writes to no descriptor, behind the greatest size of a file, and where 1 byte has room. */
+/* Writes to no descriptor, after the greatest size of a file, and to a place for only 1 byte. */
 static bool writes_that_fail_take_none(void) {
     nuz_tree *t;
     uint64_t fd;

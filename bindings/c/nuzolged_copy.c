@@ -30,7 +30,7 @@ enum { MOST_CHANGES = 100 };
 #define FOLDER (O_RDONLY | O_DIRECTORY | O_NOFOLLOW | O_CLOEXEC)
 #define AS_IT_IS (O_RDONLY | O_NOFOLLOW | O_NONBLOCK | O_NOCTTY | O_CLOEXEC)
 
-/* Closes what is open after something has failed, of which errno goes on to tell. Answers false. */
+/* Closes what is open after a failure, and keeps errno. Returns false. */
 static bool close_after(int fd) {
     int number = errno;
     close(fd);
@@ -57,7 +57,7 @@ static void text_cut(text *text, size_t len) {
     }
 }
 
-/* Makes a text of a path, without the slashes at its end, but for the root's if that is to stay. */
+/* Makes a text of a path, without the slashes at its end, except the root's if that is to stay. */
 static bool text_of_path(text *text, const char *path, size_t len, size_t least) {
     while (len > least && path[len - 1] == '/') {
         len--;
@@ -69,7 +69,7 @@ static bool text_of_path(text *text, const char *path, size_t len, size_t least)
 
 typedef struct first {
     uint64_t key[2];
-    char *name; /* NULL where there is none */
+    char *name; /* NULL if there is none */
 } first;
 
 typedef struct names {
@@ -77,7 +77,7 @@ typedef struct names {
     size_t count, room; /* room is 0 or a power of 2, and more than count */
 } names;
 
-/* The place of a key, or that where it would be. */
+/* Returns the place of a key, or the place that it would have. */
 static first *names_place(const names *names, const uint64_t key[2]) {
     uint64_t hash = (key[0] ^ (key[1] << 32 | key[1] >> 32)) * UINT64_C(0x9e3779b97f4a7c15);
     size_t index = (size_t)(hash >> 20) & (names->room - 1);
@@ -127,7 +127,7 @@ static void names_free(names *names) {
 
 /* ---- a copy */
 
-/* A directory that a copy out has made, and what there is to tell of it. */
+/* A directory that a copy out has made, and its status. */
 typedef struct folder {
     char *name; /* below the top of the copy */
     nuz_answer told;
@@ -138,7 +138,7 @@ typedef struct copy {
     uint64_t txn;
     nuz_copy_options how;
     nuz_copy_failure *failure;
-    text disk, path; /* where it is, on the disk and in the tree; the root of that is empty */
+    text disk, path; /* its place, on the disk and in the tree; the root of that is empty */
     names names;
     char *piece;
     /* a copy out: */
@@ -152,7 +152,7 @@ typedef struct copy {
     struct timespec now; /* the time of what has none */
 } copy;
 
-/* Takes note of what stood in the way, unless something did before. Answers false. */
+/* Takes note of a failure, unless there was one before. Returns false. */
 static bool fails(copy *copy, uint32_t code, bool on_disk) {
     nuz_copy_failure *failure = copy->failure;
     if (failure->code == 0) {
@@ -183,7 +183,7 @@ static bool begin(copy *copy, const nuz_copy_options *how, const char *path, siz
     return (copy->piece != NULL && text_of_path(&copy->path, path, len, 0)) || memory_fails(copy);
 }
 
-/* Ends a copy, and answers what it came to. */
+/* Ends a copy, and returns its code. */
 static uint32_t end(copy *copy) {
     for (size_t i = 0; i < copy->count; i++) {
         free(copy->folders[i].name);
@@ -197,12 +197,12 @@ static uint32_t end(copy *copy) {
     return copy->failure->code;
 }
 
-/* Where a copy was. */
+/* The place at which a copy was. */
 typedef struct place {
     size_t disk, path;
 } place;
 
-/* Goes to a name, or a path, below where the copy is. */
+/* Goes to a name, or a path, below the place of the copy. */
 static bool enter(copy *copy, const char *name, place *from) {
     size_t len = strlen(name);
     *from = (place){ copy->disk.len, copy->path.len };
@@ -222,12 +222,12 @@ static void leave(copy *copy, place from) {
 typedef struct request {
     uint32_t (*make)(nuz_tree *tree, struct request *request);
     uint64_t txn;
-    const char *path, *other; /* (path is where the copy is) */
+    const char *path, *other; /* (path is the place of the copy) */
     size_t len, other_len;
     uint64_t fd;
     char *bytes;
     size_t count;
-    text *names; /* of a list, each with its kind before it and a null byte behind it */
+    text *names; /* of a list, each with its kind before it and a null byte after it */
     uint32_t mode, owner, group;
     struct timespec time;
     nuz_answer answer;
@@ -295,7 +295,7 @@ static uint32_t close_file(nuz_tree *tree, request *r) {
     return nuz_close(tree, r->txn, r->fd, &r->answer);
 }
 
-/* Lists a directory; and takes the names again, where there was no room for all of them. */
+/* Lists a directory. If there was no room for all names, it takes them again. */
 static uint32_t list(nuz_tree *tree, request *r) {
     text *names = r->names;
     if (names->room == 0 && !text_room(names, 4096)) {
@@ -317,7 +317,7 @@ static uint32_t make(nuz_tree *tree, void *at) {
     return request->make(tree, request);
 }
 
-/* Makes a request about where the copy is. */
+/* Makes a request about the place of the copy. */
 static uint32_t ask(copy *copy, request *request) {
     bool is_root = copy->path.len == 0;
     request->txn = copy->txn;
@@ -337,7 +337,7 @@ static uint32_t ask(copy *copy, request *request) {
     return code;
 }
 
-/* The same, and takes note of what stood in the way. */
+/* Makes a request about the place of the copy, and takes note of its failure. */
 static bool asked(copy *copy, request *request) {
     uint32_t code = ask(copy, request);
     return code == 0 || fails(copy, code, false);
@@ -356,7 +356,7 @@ static uint32_t kept(const copy *copy, uint32_t mode) {
 
 /* ---- in */
 
-/* What came of a name of the disk; it is looked at again where it has changed meanwhile. */
+/* The outcome for a name of the disk; if it has changed meanwhile, it is looked at again. */
 typedef enum { COPIED, FAILED, CHANGED } outcome;
 
 static outcome outcome_of(bool copied) {
@@ -541,7 +541,7 @@ static int compare(const void *a, const void *b) {
     return strcmp(*(char *const *)a, *(char *const *)b);
 }
 
-/* Reads the names of a directory, each with a null byte behind it, and counts them. */
+/* Reads the names of a directory, each with a null byte after it, and counts them. */
 static bool in_read(copy *copy, DIR *folder, text *names, size_t *count) {
     const struct dirent *entry;
     while (errno = 0, (entry = readdir(folder)) != NULL) {
@@ -685,13 +685,13 @@ static bool finish(copy *copy, int fd, const nuz_answer *told) {
     return !(copy->how.flags & NUZ_COPY_SYNC) || fsync(fd) == 0 || disk_fails(copy);
 }
 
-/* The path below the top of where the copy is. */
+/* Returns the path of the copy's place below its top. */
 static const char *below_top(const copy *copy) {
     size_t len = copy->disk_top;
     return copy->disk.len > len ? copy->disk.at + len + 1 : copy->disk.at + len;
 }
 
-/* Takes note of the directory where the copy is, to finish it when nothing is left to make. */
+/* Takes note of the directory at the place of the copy, to finish it when nothing is left to do. */
 static bool out_noted(copy *copy, const nuz_answer *told) {
     if (copy->count == copy->room) {
         size_t room = 2 * copy->room + 16;
@@ -810,7 +810,7 @@ static bool out_name(copy *copy, int above, const char *name) {
     return copied;
 }
 
-/* Copies what is in the directory of the tree where the copy is. */
+/* Copies the contents of the tree's directory at the place of the copy. */
 static bool out_below(copy *copy, int fd) {
     text names = { NULL, 0, 0 };
     request r = { .make = list, .names = &names };
@@ -881,7 +881,7 @@ static bool removed_below(int fd) {
     return goes_on;
 }
 
-/* Makes a directory of a name that nothing has, beside where the copy comes to stand. */
+/* Makes a directory of an unused name, alongside the final place of the copy. */
 static bool make_beside(copy *copy, int above, char made[256]) {
     unsigned long mix = (unsigned long)copy->now.tv_nsec ^ (unsigned long)getpid() << 12;
     for (unsigned long tries = 0; tries < 1000; tries++) {
@@ -926,7 +926,7 @@ static bool exchange(int above, const char *one, const char *other) {
     return exchange_in_steps(above, one, other);
 }
 
-/* Whether a name leads to what the copy has found in its place; or else errno tells why not. */
+/* Whether a name leads to what the copy has found in its place; if not, errno says why. */
 static bool is_before(const copy *copy, int above, const char *name) {
     struct stat there;
     if (fstatat(above, name, &there, AT_SYMLINK_NOFOLLOW) != 0) {
@@ -938,7 +938,7 @@ static bool is_before(const copy *copy, int above, const char *name) {
 }
 
 /* Exchanges the copy with what was there before it. Whatever else has got its name gets it back.
- * Tells whether what is left beside it is to be removed. */
+ * Returns whether the directory that is left alongside it is to be removed. */
 static bool replace(copy *copy, int above, const char *made, bool *is_left) {
     const char *name = copy->name.at;
     *is_left = true;
@@ -983,7 +983,7 @@ static bool out_made(copy *copy, int above, const char *made, const nuz_answer *
     return copied;
 }
 
-/* Takes note that what was made beside the place of the copy can't be removed. */
+/* Takes note that the directory which was made alongside the place of the copy can't be removed. */
 static bool left_fails(copy *copy, const char *made) {
     uint32_t code = (uint32_t)errno;
     text_cut(&copy->disk, copy->disk_top - copy->name.len);
@@ -991,7 +991,7 @@ static bool left_fails(copy *copy, const char *made) {
                                                      : memory_fails(copy);
 }
 
-/* Copies to a directory beside the place of the copy, which then gets its name. */
+/* Copies to a directory alongside the place of the copy, which then gets its name. */
 static bool out_beside(copy *copy, int above, const nuz_answer *told) {
     char made[256];
     copy->was_there = fstatat(above, copy->name.at, &copy->before, AT_SYMLINK_NOFOLLOW) == 0;

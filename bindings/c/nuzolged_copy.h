@@ -9,7 +9,7 @@
  * directory.
  *
  * On the disk, each name is opened in the open directory that has it. A symbolic link is never
- * followed. The kind of a file is taken from what was opened. So even if someone changes names
+ * followed. The kind of a file is taken from what was opened. Even if someone changes names
  * meanwhile, nothing is copied from elsewhere, and nothing is written there. A copy has one
  * directory open for each level. It fails with EMFILE if it is deeper than the process may have
  * directories open.
@@ -53,7 +53,7 @@ typedef struct nuz_copy_failure {
     uint32_t code;            /* the code that the copy returns */
     bool on_disk;             /* whether the system failed, at disk, and not the tree, at path */
     uint64_t waits_for;       /* at NUZ_WAITS, with no around: the first blocking transaction */
-    char disk[NUZ_COPY_ROOM]; /* where the copy was on the disk, */
+    char disk[NUZ_COPY_ROOM]; /* the place of the copy on the disk, */
     char path[NUZ_COPY_ROOM]; /* and in the tree; as much of each as has room */
 } nuz_copy_failure;
 
@@ -61,7 +61,7 @@ typedef struct nuz_copy_failure {
  * missing directory of the tree is made. Existing directories keep their modes and owners. However,
  * the root of an empty tree gets those of disk, unless it has been given others. An existing file
  * or link is EEXIST. If the copy fails, what it has made stays. If memory runs out, a descriptor
- * may stay too. So give the copy a txn of its own, whose abort removes all of it.
+ * may stay too. Give the copy a txn of its own, whose abort removes all of it.
  *
  * Returns 0; an errno of the system, or of the tree; a refusal; NUZ_WAITS, with the call forgotten;
  * or NUZ_BAD if path has a null byte. ENOTSUP: something is neither a file, a directory nor a
@@ -88,7 +88,7 @@ uint32_t nuz_copy_in(nuz_tree *tree, uint64_t txn, const char *disk, const void 
  * it gets another owner or group than it has in the tree. Files that have no time in the tree get
  * that of the copy, which is the same for all of them.
  *
- * An existing directory has to be empty, or is ENOTEMPTY. With NUZ_COPY_REPLACE any directory may
+ * An existing directory must be empty, or is ENOTEMPTY. With NUZ_COPY_REPLACE any directory may
  * exist, but no symbolic link. It is exchanged with the copy at once, and removed. If the file
  * system can't exchange two names, the existing directory is renamed first. Then for a moment
  * nothing has its name. With NUZ_COPY_SYNC the copy is whole or nothing even if the power fails.

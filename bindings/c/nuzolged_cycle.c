@@ -6,7 +6,8 @@
 
 #include "report.h"
 
-/* An edge: who waits for whom. The first edge of a transaction stands for that too. */
+/* An edge: a transaction that waits, and one that it waits for. The first edge of a transaction
+ * also represents the transaction itself. */
 typedef struct edge {
     uint64_t from, to;
     struct edge *before; /* for whom the transaction is waited for, on a shortest way to it; */
@@ -15,7 +16,7 @@ typedef struct edge {
 
 typedef struct waits {
     text report;
-    edge *at; /* in the order of who waits */
+    edge *at; /* in the order of the transactions that wait */
     size_t count, room;
 } waits;
 
@@ -53,8 +54,8 @@ static edge *first_of(const waits *waits, uint64_t txn) {
     return from < waits->count && waits->at[from].from == txn ? &waits->at[from] : NULL;
 }
 
-/* Goes on from a transaction to those that it waits for and that are not seen yet, which are put
- * behind the others that are to be gone on from. Whether it waits for the one looked for. */
+/* Goes on from a transaction to those that it waits for and that are not seen yet. They come after
+ * the others in the queue. Returns whether it waits for the one looked for. */
 static bool goes_on(const waits *waits, edge *from, uint64_t txn, edge **behind, size_t *count) {
     const edge *end = waits->at + waits->count;
     for (const edge *edge = from; edge < end && edge->from == from->from; edge++) {

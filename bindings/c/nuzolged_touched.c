@@ -9,7 +9,7 @@
 /* The number of the root. */
 enum { ROOT = 1 };
 
-/* Beside what is told: the name itself was looked up. */
+/* In addition to the public flags: the name itself was looked up. */
 enum { LOOKED_UP = 1 << 16 };
 
 /* ---- coded names */
@@ -193,7 +193,7 @@ static size_t first_name(const found *found, uint64_t number) {
     return from;
 }
 
-/* A name of what has this number: the first of them, or one behind that; or NULL. */
+/* Returns a name of the thing with this number: the first of them, or one after that; or NULL. */
 static name *name_at(const found *found, size_t place, uint64_t number) {
     bool is_there = place < found->there.count && found->by_number[place]->number == number;
     return is_there ? found->by_number[place] : NULL;
@@ -221,7 +221,7 @@ static uint32_t report_locks(nuz_tree *tree, uint64_t txn, text *text) {
 }
 
 /* Takes note of how a name has been touched, that it is in or is missing in a directory. (Locks of
- * one name stand behind each other.) */
+ * one name follow each other.) */
 static bool touch_name(found *found, name key) {
     names *there = &found->there, *absent = &found->absent;
     name *known = there->count == 0 ? NULL
@@ -257,8 +257,8 @@ static void touch_thing(found *found, uint64_t number, uint32_t how) {
     found->root |= number == ROOT ? how : 0;
 }
 
-/* Takes note of a lock. Those of parents, counts of names and descriptors are of no path that
- * others do not tell. */
+/* Takes note of a lock. Locks of parents, counts of names and descriptors add no path to those of
+ * the others. */
 static bool read_lock(found *found, word line) {
     if (!is(taken(&line, ' '), "lock")) {
         return true;
@@ -314,7 +314,7 @@ static void write_path(const found *found, const name *name, char *end) {
     } while (is_below);
 }
 
-/* How a path is told, of which a kind of thing is there. */
+/* How a path was touched, if a thing of this kind is there. */
 static uint32_t told_how(uint32_t how, uint32_t kind) {
     bool is_absent = kind == 0 && !(how & NUZ_TOUCHED_WRITTEN);
     return (how & ~(uint32_t)LOOKED_UP) | (is_absent ? NUZ_TOUCHED_ABSENT : 0);
@@ -386,7 +386,7 @@ static uint32_t find(found *found, nuz_tree *tree, uint64_t txn) {
     return code != 0 ? code : read_locks(found) && add_all(found) ? 0 : NUZ_MEMORY;
 }
 
-/* ---- what is told */
+/* ---- reports */
 
 uint32_t nuz_touched(nuz_tree *tree, uint64_t txn, nuz_touched_each *each, void *context,
                      nuz_answer *answer) {
@@ -400,7 +400,7 @@ uint32_t nuz_touched(nuz_tree *tree, uint64_t txn, nuz_touched_each *each, void 
     return code;
 }
 
-/* Answers a text, which this takes, and copies as much of it as has room. */
+/* Fills in an answer with a text, which this takes, and copies as much of it as has room. */
 static uint32_t answered_text(nuz_answer *answer, uint32_t code, size_t number, text *text,
                               void *buffer, size_t room) {
     size_t size = code == 0 ? text->len : 0, copied = size < room ? size : room;
@@ -417,7 +417,7 @@ static bool add_string(text *text, const char *string) {
 
 /* ---- a manifest */
 
-/* Adds a path as a report tells it. */
+/* Adds a path as a report lists it. */
 static bool add_coded(text *text, const nuz_touch *touch) {
     static const char digits[] = "0123456789ABCDEF";
     bool has_memory = true;
@@ -483,7 +483,7 @@ static bool has_form(const char *name, size_t len, bool is_target) {
     return is_good;
 }
 
-/* Adds backslashes that stand at the end of a text once more. */
+/* Doubles the backslashes at the end of a text. */
 static bool add_backslashes(text *text) {
     size_t count = 0;
     while (count < text->len && text->at[text->len - 1 - count] == '\\') {
@@ -508,14 +508,14 @@ static bool add_escaped(text *text, const char *name, size_t len) {
     return has_memory;
 }
 
-/* What is told of a depfile. */
+/* The contents of a depfile. */
 typedef struct depfile {
     text text;
-    text name; /* what stands before each path of the tree, and a path behind it */
+    text name; /* the prefix of each path of the tree, and a path after it */
     size_t top_len, count;
 } depfile;
 
-/* Adds a name behind what stands before it: 0, NUZ_BAD or NUZ_MEMORY. */
+/* Adds a name after its prefix: 0, NUZ_BAD or NUZ_MEMORY. */
 static uint32_t add_form(depfile *depfile, const char *before, const char *name, size_t len,
                          bool is_target) {
     if (!has_form(name, len, is_target)) {

@@ -74,7 +74,7 @@ static bool set_limit(nuz_limits *limits, const char *flag, const char *word) {
     return true;
 }
 
-/* Opens the tree that the words of the command ask for. */
+/* Opens the tree that the words of the command request. */
 static bool open_tree(nuz_tree **tree, char **words) {
     nuz_limits limits = NUZ_LIMITS_SCRIPT;
     uint32_t options = 0;
@@ -91,7 +91,7 @@ static bool open_tree(nuz_tree **tree, char **words) {
     if (nuz_tree_open_with(tree, options, &limits) != 0) {
         return false;
     }
-    uint64_t seed = 0; /* (where the system gives none, it stays so) */
+    uint64_t seed = 0; /* (if the system gives none, it stays so) */
     (void)!getentropy(&seed, sizeof seed);
     nuz_tree_seed(*tree, seed);
     return true;

@@ -30,7 +30,7 @@ static bool opened(void) {
 /* Longer than any of these waits, in milliseconds, so that none is for ever. */
 enum { LONG = 20000 };
 
-/* A call of a transaction on a path, in a thread of its own if it has to wait. */
+/* A call of a transaction on a path, in a thread of its own if it may be blocked. */
 typedef struct call {
     uint64_t txn;
     uint32_t milliseconds;

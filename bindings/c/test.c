@@ -1,10 +1,10 @@
-/* Calls every function of nuzolged.h, and compares what it answers with what the header says.
+/* Calls every function of nuzolged.h, and compares its answer with the header.
  *
  *     test [TREES]
  *
  * TREES is how many trees are opened and closed one after another in flat memory, 100,000 if it is
- * not given; where it is, what takes long is left out. The last line is 'N passed, M failed', and
- * the status is 0 where none failed.
+ * not given. If it is, tests that take long are left out. The last line is 'N passed, M failed',
+ * and the status is 0 if none failed.
  *
  * It is linked with --wrap=malloc and --wrap=realloc, so that memory runs out when a test says so.
  */
@@ -31,7 +31,7 @@ static bool is_short;
 /* The answer that a function fills in. It begins as garbage. */
 static nuz_answer last_answer;
 
-/* The answer, where it has the code that was returned too, and has 0 for what is reserved; else one
+/* The answer, if it has the code that was returned too, and 0 in its reserved members; else one
  * with a code that none has. */
 static nuz_answer answer_with(uint32_t code) {
     nuz_answer answer = last_answer;
@@ -44,7 +44,7 @@ static nuz_answer answer_with(uint32_t code) {
     return answer;
 }
 
-/* What a function answers, which is given these arguments. */
+/* The answer of a function to these arguments. */
 #define ASK(function, ...) answer_with(function(__VA_ARGS__, &last_answer))
 
 /* Opens the tree of a test with limits. */
@@ -137,7 +137,7 @@ static bool seed_changes_no_answer(void) {
     return true;
 }
 
-/* Whether no tree is opened with these options, whatever stands where it goes. */
+/* Whether no tree is opened with these options, whatever the pointer was before. */
 static bool are_no_options(uint32_t options) {
     int no_tree;
     nuz_tree *t = (nuz_tree *)&no_tree;
@@ -160,7 +160,7 @@ static bool tree_is_opened_over_garbage(void) {
     return true;
 }
 
-/* The memory that this process has now, in pages; -1 where that is not told. */
+/* The memory that this process has now, in pages; -1 if that is not known. */
 static long pages_of_memory(void) {
     long pages = -1;
     FILE *told = fopen("/proc/self/statm", "r");
@@ -271,7 +271,7 @@ static bool checkpoint_forgets(void) {
 
 /* ---- limits */
 
-/* Begins transactions inside each other, as deep as they may stand: the number of the deepest. */
+/* Begins transactions inside each other, to the greatest depth. Returns the deepest number. */
 static uint64_t begin_deepest(nuz_tree *t) {
     uint64_t deepest = 0;
     nuz_answer below = ASK(nuz_begin, t);
@@ -409,7 +409,7 @@ static bool limits_to_come_are_none(void) {
     return true;
 }
 
-/* A tree that is told nothing has the greatest limits. */
+/* A tree without options has the greatest limits. */
 static bool limits_are_the_greatest(void) {
     nuz_tree *t;
     const int64_t largest = INT64_C(1) << 47;
@@ -477,7 +477,7 @@ static bool names_are_cut_to_the_room(void) {
     return true;
 }
 
-/* Whether a directory is listed as these bytes, with so many names, where there is room enough. */
+/* Whether a directory is listed as these bytes, with so many names, if there is enough room. */
 static bool lists(nuz_tree *t, const char *path, uint64_t number, const char *bytes, size_t size) {
     uint8_t b[64];
     memset(b, '.', sizeof b);
@@ -764,13 +764,13 @@ static bool forty_links_are_followed(void) {
 
 /* ---- modes, owners and times */
 
-/* Whether an answer tells of these, and of no time. */
+/* Whether an answer has these, and no time. */
 static bool has(nuz_answer told, uint32_t mode, uint32_t owner, uint32_t group) {
     return told.code == 0 && told.mode == mode && told.owner == owner && told.group == group
         && !told.has_time && told.seconds == 0 && told.nanoseconds == 0;
 }
 
-/* Whether it tells of this time. */
+/* Whether it has this time. */
 static bool is_of(nuz_answer told, int64_t seconds, uint32_t nanoseconds) {
     return told.code == 0 && told.has_time && told.seconds == seconds
         && told.nanoseconds == nanoseconds;
@@ -887,7 +887,7 @@ static bool times_are_set(void) {
     return true;
 }
 
-/* Whether the file of a descriptor lost the time 7 by its last call, which an undo takes back. */
+/* Whether the last call removed the time 7 of a descriptor's file, and an undo restores it. */
 static bool was_taken_away(nuz_tree *t, uint64_t fd) {
     CHECK(!ASK(nuz_fstat, t, 1, fd).has_time && ASK(nuz_undo, t, 1).code == 0);
     CHECK(ASK(nuz_undo, t, 1).code == 0);
@@ -1065,7 +1065,7 @@ static bool fills_up(nuz_tree *t, const uint8_t *bytes, size_t len) {
     return true;
 }
 
-/* Writes 4 GiB, where a copy of so much has no room. */
+/* Writes 4 GiB, if there is no memory for a copy of so much. */
 static bool bytes_without_room_are_not_copied(void) {
     const size_t len = (size_t)4 << 30;
     struct rlimit was, less;
@@ -1231,7 +1231,7 @@ static bool all_blockers_are_told(void) {
     return true;
 }
 
-/* Whether the deadlock that is told is this one, of less than 4 transactions. */
+/* Whether the reported deadlock is this one, of less than 4 transactions. */
 static bool is_cycle(nuz_tree *t, uint64_t number, const uint64_t *members) {
     uint64_t txns[4] = { 77, 77, 77, 77 };
     nuz_answer told = ASK(nuz_cycle, t, txns, 4);
@@ -1452,9 +1452,9 @@ static bool locks_of_a_transaction_are_told(void) {
     return true;
 }
 
-/* ---- want of memory */
+/* ---- out of memory */
 
-/* Whether each request for which there may be none is refused for want of memory, which is the last
+/* Whether each request for which there may be none is refused as out of memory, which is the last
  * answer then; and one that is refused anyhow as with memory. */
 static bool are_refused(nuz_tree *t, uint64_t fd) {
     CHECK(make_dir(t, 1, "/d").code == NUZ_MEMORY && ASK(nuz_blocker, t, 0).code == NUZ_BAD);

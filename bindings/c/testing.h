@@ -6,7 +6,7 @@
 #include <stdio.h>
 #include <stdlib.h>
 
-/* Ends a test, which has failed, where this does not hold. */
+/* Ends a test, which has failed, if this does not hold. */
 #define CHECK(holds)                                                    \
     do {                                                                \
         if (!(holds)) {                                                 \
@@ -23,8 +23,8 @@ typedef struct test {
 /* A test, as a table of them has it. */
 #define TEST(name) { #name, name }
 
-/* Runs tests, has something done behind each, if there is something to, and says how many passed
- * and failed. Answers the status of the program. */
+/* Runs tests, does something after each, if there is something to do, and prints how many passed
+ * and failed. Returns the status of the program. */
 static inline int run_tests(const test *tests, size_t count, void (*behind)(bool is_good)) {
     unsigned passed = 0, failed = 0;
     for (size_t i = 0; i < count; i++) {

@@ -1,7 +1,7 @@
 /* threads: jobs in threads that share a tree. Each reads a number from a file, and writes the next.
  *
- * A lock is around each request. A call that has to wait is made again when a transaction has
- * ended. A job whose call would wait for ever is aborted, and begins again when another has ended.
+ * A lock is around each request. A blocked call is made again when a transaction has ended. A job
+ * whose call would wait for ever is aborted, and begins again when another has ended.
  */
 #define _DEFAULT_SOURCE /* for barriers */
 
@@ -26,8 +26,8 @@ static struct {
     unsigned long deadlocks;
 } shared = { NULL, PTHREAD_MUTEX_INITIALIZER, PTHREAD_COND_INITIALIZER, 0, 0 };
 
-/* Where the first jobs of all threads meet when they have read, so that they are in each other's
- * way: only one of them can write. */
+/* The first jobs of all threads meet here when they have read, so that they block each other: only
+ * one of them can write. */
 static pthread_barrier_t meeting;
 static _Thread_local bool has_met;
 
@@ -76,9 +76,9 @@ static uint32_t close_file(uint64_t txn, uint64_t fd, nuz_answer *answer) {
     return carried_out(code, txn, NULL, 0, answer);
 }
 
-/* Commits a job, or aborts it if something stood in its way, and wakes those that wait. After a
- * deadlock it waits until another job has ended, since one of the others in the cycle will. If it
- * began again at once, it could be in their way once more. */
+/* Commits a job, or aborts it if something has failed, and wakes those that wait. After a deadlock
+ * it waits until another job has ended, since one of the others in the cycle will. If it began
+ * again at once, it could block them once more. */
 static uint32_t end_job(uint64_t txn, uint32_t code) {
     nuz_answer answer;
     pthread_mutex_lock(&shared.lock);
@@ -105,7 +105,7 @@ static uint32_t begin_job(uint64_t *txn) {
     return code;
 }
 
-/* A job: adds to the number in /count, or makes it, and tells it. */
+/* A job: adds to the number in /count, or makes it, and returns it. */
 static uint32_t add(unsigned long more, unsigned long *number) {
     char text[ROOM];
     nuz_answer opened, answer;

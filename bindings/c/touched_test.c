@@ -2,13 +2,13 @@
  *
  *     touched_test
  *
- * The last line is 'N passed, M failed', and the status is 0 where none failed. It is linked with
+ * The last line is 'N passed, M failed', and the status is 0 if none failed. It is linked with
  * --wrap=malloc and --wrap=realloc, so that memory runs out when a test says so.
  *
  *     touched_test depfile TARGET TOP NAME..
  *
  * writes the depfile of a transaction that has read files of these names to standard output. The
- * status is 1 where there is no form for one of them.
+ * status is 1 if there is no form for one of them.
  */
 #include <nuzolged_touched.h>
 
@@ -30,8 +30,8 @@ static bool begins(job *job) {
     return job->txn != 0;
 }
 
-/* Carries out requests of the transaction, with a semicolon behind each: all are granted, if they
- * fail too. */
+/* Carries out requests of the transaction, each with a semicolon after it: all are granted, even if
+ * they fail. */
 static bool does(job *job, const char *requests) {
     bool is_good = true;
     for (const char *at = requests; is_good && *at != '\0';) {
@@ -50,7 +50,7 @@ static bool begun(job *job, const char *requests) {
         && nuz_commit(job->tree, job->txn, &answer) == 0 && begins(job);
 }
 
-/* Whether that has touched just what is told here. */
+/* Whether it has touched exactly what is listed here. */
 static bool has_touched(const job *job, const char *manifest) {
     char text[4096];
     uint32_t code = nuz_manifest(job->tree, job->txn, text, sizeof text, &answer);
@@ -77,7 +77,7 @@ static bool has_depfile(const job *job, const char *target, const char *top, con
 /* Two directories and two files. */
 static const char *const FOLDERS = "mkdir /d;mkdir /d/e;open wc /d/f;open wc /d/g%20h;";
 
-/* ---- what is told */
+/* ---- reports */
 
 static bool nothing_is_told(void) {
     job job;
@@ -208,9 +208,9 @@ static bool names_are_bytes(void) {
     return true;
 }
 
-/* ---- to whom it is told */
+/* ---- the callback */
 
-/* What is told to tell: the paths, with how and kind. */
+/* The expected reports: the paths, with how and kind. */
 typedef struct told {
     char text[256];
     uint32_t count, most;
@@ -342,7 +342,7 @@ static uint32_t ask_depfile(const job *job) {
     return nuz_depfile(job->tree, job->txn, NULL, "/top", told_text, sizeof told_text, &answer);
 }
 
-/* Whether want of memory is told, at whichever allocation it comes. */
+/* Whether lack of memory is reported, at whichever allocation it comes. */
 static bool tells_want_of_memory(const job *job, uint32_t (*ask)(const struct job *)) {
     long n = 0;
     for (uint32_t code = NUZ_MEMORY; code != 0; n++) {

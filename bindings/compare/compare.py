@@ -8,7 +8,7 @@ its size, opened, read and closed, renamed, and the names of the directory are l
 2,000 rounds, and nothing is removed, so that the tree grows. The library makes them in one
 transaction, with no buffer between; the system in memory (/dev/shm) and in the folder for temporary
 files; pyfakefs by its os; and LMDB and SQLite, which know no files, in one transaction on paths and
-bytes: fewer calls that do less. What is not installed is left out.
+bytes: fewer calls that do less. Peers that are not installed are left out.
 
 Each is taken five times, in turns with the others, each time in a process of its own, and the
 shortest time of the processor is told, that of the system's part too; at the end that of one stat
@@ -32,7 +32,7 @@ DATA = b"some bytes of a file" * 5
 HERE = Path(__file__).resolve().parent
 OUT = HERE.parent / "out"
 
-#: Where the system keeps files in memory.
+#: The folder in which the system keeps files in memory.
 IN_MEMORY = Path("/dev/shm")
 
 

@@ -1,6 +1,6 @@
 /* longest: how long one call can take, and so how long it keeps the lock of a tree that threads
  * share: a commit and an abort of many calls, nested commits, a call that many transactions block,
- * calls while others wait in turn, and the report of who waits for whom.
+ * calls while others wait in turn, and the waits-for report.
  *
  *     cc -O2 -I../c longest.c ../out/libnuzolged.a -o longest
  *     ./longest
@@ -114,7 +114,7 @@ static void commit_levels(void) {
     print_since("63 nested commits of 200,100 calls, all together", begun);
 }
 
-/* Has many look at a name, and others ask to make it, who wait then. */
+/* Has many look at a name, and others ask to make it, which then wait. */
 static void block(void) {
     for (int i = 0; i < READERS; i++) {
         nuz_stat(tree, begin(), NUZ_S("/name"), &answer);

@@ -3,8 +3,8 @@
  *     rounds WAY COUNT [FOLDER]
  *
  * WAY is library, system (in FOLDER, which is empty), lmdb (so too) or sqlite (in memory): the last
- * two where it was compiled with WITH_LMDB or WITH_SQLITE, as databases of paths and bytes. All
- * rounds of a way are one transaction. What is written is the time in seconds.
+ * two if it was compiled with WITH_LMDB or WITH_SQLITE, as databases of paths and bytes. All
+ * rounds of a way are one transaction. The output is the time in seconds.
  */
 #define _DEFAULT_SOURCE /* for getrusage */
 

@@ -3,7 +3,7 @@
 //!     rounds WAY COUNT [FOLDER]
 //!
 //! WAY is library, shared (a tree for threads, of which there is one) or system (in FOLDER, which
-//! is empty). What is written is the time in seconds.
+//! is empty). The output is the time in seconds.
 
 use nuzolged::{OpenOptions, Reach, Result, Shared, Transaction, Tree};
 use std::io::{Read, Write};

@@ -1,8 +1,8 @@
-/* What the kernel has to forget, since a transaction has ended or something was undone.
+/* The things that the kernel must forget, since a transaction has ended or something was undone.
  *
- * It is told so in a thread of its own, because it may wait then for a request of the same
- * directory, which the thread that serves them has to answer. What requests that wait may have
- * locked is told last, so that nobody waits for that. */
+ * The kernel is notified in a thread of its own, because it may then wait for a request of the same
+ * directory, which the thread that serves requests must answer. Things that waiting requests may
+ * have locked come last, so that nobody waits for them. */
 #include "mount.h"
 
 /* A name in a directory; or, with no name, all of a node. */
@@ -25,11 +25,11 @@ struct stale {
     pthread_mutex_t lock;
     pthread_cond_t told;
     bool is_told;
-    int users; /* how many threads, and the list of those that are not told */
+    int users; /* how many threads, and the list of those that are not notified */
     struct stale *next;
 };
 
-/* What the kernel has not been told yet, or not long ago. */
+/* The things of which the kernel has not been notified yet, or not long ago. */
 static struct stale *untold;
 
 struct stale *stale_new(void) {
@@ -98,7 +98,7 @@ static void leave(struct stale *stale) {
     }
 }
 
-/* Takes what has been told out of the list. */
+/* Takes the things of which the kernel was notified out of the list. */
 static void forget_told(void) {
     struct stale **at = &untold;
     while (*at != NULL) {

@@ -18,7 +18,7 @@ enum { READS = 0, WRITES = 1 };
 
 operation make_getattr, make_setattr;
 
-/* Counts a call of the node's step that was granted, and answers its code. */
+/* Counts a call of the node's step that was granted, and returns its code. */
 uint32_t counted_for(const struct node *node, const nuz_answer *answer, uint32_t code);
 
 /* Learns what a stat says of a node, unless it is known. */
@@ -39,11 +39,12 @@ operation make_unlink, make_rename;
 /* Learns what a name in a directory leads to. */
 uint32_t look_up(struct node *dir, const char *name, struct node **node);
 
-/* What the kernel is told of a node. */
+/* The attributes of a node, for the kernel. */
 struct fuse_entry_param entry_of(struct node *node);
 uint32_t reply_entry(const struct request *request, struct node *node);
 
-/* Who owns what a program makes: that program, but for the group of a directory with S_ISGID. */
+/* The owner of what a program makes: that program's user and group, except the group of a directory
+ * with S_ISGID. */
 struct told owners_of_new(const struct request *request);
 
 /* Gives what was made its owner and group, which are 0 in the tree. */

@@ -20,7 +20,7 @@ void complain(const char *format, ...) {
     va_end(words);
 }
 
-/* ---- where a transaction is */
+/* ---- the place of a transaction */
 
 /* Takes a path apart: its last name, and the directory before it. If it has no name, as the root of
  * the disk, no mount has it: false, with errno. */
@@ -70,7 +70,7 @@ char *absolute(const char *path) {
     return len < 0 ? NULL : text;
 }
 
-/* Opens the control file of a mount, or answers -1, with errno. */
+/* Opens the control file of a mount, or returns -1, with errno. */
 int control_of_mount(const char *dir) {
     struct stat status;
     char *path;
@@ -102,7 +102,7 @@ bool is_mount(const char *dir) {
 
 /* ---- requests */
 
-/* Makes a request, of one to three words. Answers 0 or an errno. */
+/* Makes a request, of one to three words. Returns 0 or an errno. */
 int ask(int control, const char *word, const char *name, const char *rest) {
     char *line;
     int len = asprintf(&line, "%s%s%s%s%s\n", word, name == NULL ? "" : " ",
@@ -117,7 +117,7 @@ int ask(int control, const char *word, const char *name, const char *rest) {
     return written == len ? 0 : written < 0 ? number : EIO;
 }
 
-/* The reply to the last request, with a null byte behind it; or NULL. */
+/* The reply to the last request, with a null byte after it; or NULL. */
 char *reply_of(int control, size_t *size) {
     size_t room = 0;
     char *text = NULL;
@@ -142,7 +142,7 @@ char *reply_of(int control, size_t *size) {
 void complain_of(int control, int number, const char *word, const char *path) {
     size_t size = 0;
     char *text = control < 0 ? NULL : reply_of(control, &size);
-    const char *said = number == EMEDIUMTYPE ? "there is no mount of nuz" : strerror(number);
+    const char *said = number == EMEDIUMTYPE ? "not a nuz mount" : strerror(number);
     complain("%s %s: %s", word, path, size > 0 && text != NULL ? text : said);
     free(text);
 }
@@ -153,7 +153,7 @@ int ask_about(const char *word, const char *path) {
     int control = place_of(path, &place) ? control_of_mount(place.dir) : -1;
     int number = control < 0 ? errno : ask(control, word, place.name, NULL);
     if (number == EMEDIUMTYPE) {
-        complain("%s %s: this is no DIR/NAME of a mount of nuz", word, path);
+        complain("%s %s: not DIR/NAME of a nuz mount", word, path);
     } else if (number != 0) {
         complain_of(control, number, word, path);
     }
@@ -164,7 +164,7 @@ int ask_about(const char *word, const char *path) {
     return number == 0 ? DONE : NOT_DONE;
 }
 
-/* Prints who is live, or who waits for whom. */
+/* Prints the live transactions, or which one waits for which. */
 int tell_steps(const char *dir, bool as_dot) {
     size_t size = 0;
     int control = control_of_mount(dir);

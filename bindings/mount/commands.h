@@ -102,7 +102,7 @@ struct job {
     char *at;   /* what the step is bound over, or NULL */
     char *below; /* where in the step the command begins, with a slash before it, or "" */
     char *parent; /* what it is a step of if its name is a number's, or NULL */
-    char *in_way; /* the transactions that have to end before it begins, or NULL */
+    char *in_way; /* the transactions that must end before it begins, or NULL */
     bool is_live; /* whether it has begun, and not been aborted */
     struct target target; /* of --to */
     int control;
@@ -113,12 +113,12 @@ char *joined(const char *one, const char *two, const char *three);
 
 /* ---- its command (process.c) */
 
-/* Runs the command in the step, and answers its status. */
+/* Runs the command in the step, and returns its status. */
 int run_command(const struct job *job);
 /* The last signal that this process was sent since it has begun a command, or 0. */
 int was_sent(void);
 
-/* ---- what it tells of its step (told.c) */
+/* ---- reports about its step (told.c) */
 
 /* The texts that are wanted, and the paths of their files, for their reader to free. */
 struct texts {
@@ -126,7 +126,7 @@ struct texts {
     char *manifest, *manifest_at;
 };
 
-/* Whether all that is to be told has a place. */
+/* Whether each wanted report has a place. */
 bool can_tell(const struct run *run);
 /* Makes the texts, of a step that is live; and writes them, each whole or not at all. */
 bool make_texts(const struct job *job, struct texts *texts);

@@ -74,7 +74,7 @@ static void write_edges(FILE *to, const struct step *step) {
     }
 }
 
-/* Who waits for whom, in the DOT language. */
+/* The waits-for graph of the transactions, in the DOT language. */
 static void write_dot(FILE *to) {
     fputs("digraph waits {\n", to);
     for (const struct step *step = served.steps; step != NULL; step = step->next) {
@@ -110,7 +110,7 @@ struct order {
     size_t written;
 };
 
-/* What comes to a request that has ended well, and is not replied to yet. */
+/* The work that remains for a request that has ended well, and is not replied to yet. */
 static uint32_t written(const struct order *order) {
     fuse_reply_write(order->fuse, order->written);
     return 0;
@@ -169,8 +169,9 @@ static void wait_for_all(const struct order *order, const char *numbers) {
     reply_when_ended(order->fuse, order->written, &wait);
 }
 
-/* Begins a step that is held from its beginning, and replies when those have ended that it has to
- * wait for. (What the kernel knows under its name is not one that has ended, as after mkdir.) */
+/* Begins a step that is held from its beginning, and replies when those have ended that it must
+ * wait for. (The thing that the kernel knows under its name is not one that has ended, as after
+ * mkdir.) */
 static uint32_t begin_held(struct order *order) {
     uint32_t code = stale_has_step(order->name) ? EBUSY : step_begin(order->name, &order->step);
     if (code == 0) {
@@ -180,7 +181,7 @@ static uint32_t begin_held(struct order *order) {
     return code;
 }
 
-/* Fails with EDEADLK if a call in a step has, and tells who was in its way. */
+/* Fails with EDEADLK if a call in a step has, and reports its blockers. */
 static uint32_t whole(const struct order *order) {
     const struct step *step = order->step;
     if (!step->is_broken) {
@@ -215,8 +216,8 @@ static uint32_t save(const struct order *order, bool replaces) {
     return code;
 }
 
-/* Replies with what a step has touched. The last word of a request for a depfile is what stands
- * before each path, and behind a newline the target. */
+/* Replies with what a step has touched. The last word of a request for a depfile is the prefix of
+ * each path, and after a newline the target. */
 static uint32_t touched(const struct order *order, bool is_depfile) {
     struct touched touched = { 0 };
     char *rest = order->rest;

@@ -186,7 +186,7 @@ uint32_t make_write(struct request *request) {
                   : nuz_pwrite(IN(node), node->fd, request->bytes, request->size,
                                request->offset, &answer);
     if (counted_for(node, &answer, code) != 0) {
-        /* (the kernel tells of that only who syncs) */
+        /* (the kernel reports that only to a program that syncs) */
         node->step->is_lost |= request->file.writepage && code != NUZ_WAITS;
         return code;
     }

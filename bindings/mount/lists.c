@@ -1,14 +1,14 @@
 /* Directories that are open: the names of each, as they were when it was read from its start. */
 #include "calls.h"
 
-/* As nuz_list_all tells them: for each a byte with its kind, its name and a null byte. */
+/* The form of nuz_list_all: for each name a byte with its kind, the name and a null byte. */
 struct listing {
     char *names;
     size_t size, room;
     bool is_read;
 };
 
-/* The offsets of . and .., and those behind them. */
+/* The offsets of . and .., and those after them. */
 enum { OFFSET_DOTS = 2 };
 
 uint32_t list_open(struct request *request) {
@@ -86,14 +86,14 @@ static uint32_t read_names(const struct request *request, struct listing *listin
     return code;
 }
 
-/* What is told to the kernel: what has room of it. */
+/* The names for the kernel: as many as have room. */
 struct entries {
     fuse_req_t fuse;
     char *at;
     size_t size, room;
 };
 
-/* Adds an entry. Answers whether it had room. */
+/* Adds an entry. Returns whether it had room. */
 static bool add(struct entries *entries, const char *name, const struct stat *status, off_t next) {
     size_t left = entries->room - entries->size;
     size_t size = fuse_add_direntry(entries->fuse, entries->at + entries->size, left, name, status,

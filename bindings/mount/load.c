@@ -1,5 +1,5 @@
-/* What a mount begins with: a folder of the disk, in the tree. What of it a tree does not hold is
- * told, once of each kind. */
+/* The beginning of a mount: a folder of the disk, in the tree. Things in it that a tree does not
+ * hold are reported, once of each kind. */
 #include "mount.h"
 
 #include "commands.h"

@@ -37,7 +37,7 @@ static bool count_of(const char *word, long *count) {
 
 /* ---- options */
 
-/* What the words behind a command say: options, of which it takes some, and others. */
+/* The words after a command: options, of which it takes some, and others. */
 struct said {
     const struct command *command;
     struct run run;
@@ -46,8 +46,8 @@ struct said {
     int count;
 };
 
-/* A command: what it does, which options it takes, how many words it has to have beside them (run:
- * at least one), and what its help says. */
+/* A command: its function, the options that it takes, how many other words it must have (run: at
+ * least one), and its help text. */
 struct command {
     const char *word;
     int (*act)(struct said *said);
@@ -60,13 +60,13 @@ struct command {
 static void refuse(struct said *said, const char *what, const char *word) {
     if (!said->is_bad) {
         complain("%s: %s%s", said->command->word, what, word);
-        fprintf(stderr, "usage: %s(nuz %s --help tells more)\n", said->command->synopsis,
+        fprintf(stderr, "usage: %s(nuz %s --help explains the options)\n", said->command->synopsis,
                 said->command->word);
     }
     said->is_bad = true;
 }
 
-/* How many words `nuz run` has to have. */
+/* How many words `nuz run` must have. */
 enum { AT_LEAST_ONE = -1 };
 
 enum {
@@ -103,7 +103,7 @@ static void take(struct said *said, int option) {
     case AT: run->at = optarg; break;
     case WAIT:
         if (!seconds_of(optarg, &run->own.limit)) {
-            refuse(said, "this is no number of seconds: ", optarg);
+            refuse(said, "not a number of seconds: ", optarg);
         }
         run->own.has_limit = true;
         break;
@@ -117,7 +117,7 @@ static void take(struct said *said, int option) {
     case REPLACE: run->replaces = true; break;
     case RETRIES:
         if (!count_of(optarg, &run->retries)) {
-            refuse(said, "this is no number: ", optarg);
+            refuse(said, "not a number: ", optarg);
         }
         break;
     case DOT: said->has_dot = true; break;
@@ -134,11 +134,11 @@ static void read_options(struct said *said, int count, char **words) {
     const char *order = said->command->count == AT_LEAST_ONE ? "+:h" : ":h";
     while ((option = getopt_long(count, words, order, all_options, NULL)) != -1) {
         if (option == ':') {
-            refuse(said, "a word is missing behind ", words[optind - 1]);
+            refuse(said, "an argument is missing after ", words[optind - 1]);
         } else if (option == 'h') {
             said->has_help = true;
         } else if (option >= 32 || (allowed >> option & 1) == 0) {
-            refuse(said, "there is no such option, or it takes no word: ", words[optind - 1]);
+            refuse(said, "there is no such option, or it takes no argument: ", words[optind - 1]);
         } else {
             take(said, option);
         }
@@ -180,7 +180,7 @@ static int mount_on(const char *path, struct said *said) {
         return NOT_DONE;
     }
     if (is_mount(path)) {
-        complain("mount %s: there is a mount of nuz already", path);
+        complain("mount %s: a nuz mount is already there", path);
         return NOT_DONE;
     }
     char *dir = realpath(path, NULL);
@@ -209,14 +209,15 @@ static int act_run(struct said *said) {
     const struct run *asked = &said->run;
     bool is_own = asked->from != NULL || asked->to != NULL;
     if (is_own && asked->in != NULL) {
-        refuse(said, "--in is of a mount that is there, --from and --to are of one of its own", "");
+        refuse(said, "--in is for an existing mount, --from and --to are for a mount of its "
+                     "own", "");
     } else if (!is_own && (asked->own.has_limit || asked->own.is_moss || asked->own.is_for_all)) {
-        refuse(said, "--wait, --moss and --allow-other are of a mount of its own, with --from or "
+        refuse(said, "--wait, --moss and --allow-other need a mount of its own, with --from or "
                      "--to", "");
     } else if (asked->replaces && asked->to == NULL) {
-        refuse(said, "--replace is of --to", "");
+        refuse(said, "--replace needs --to", "");
     } else if (asked->target != NULL && asked->depfile == NULL) {
-        refuse(said, "--target is of --depfile", "");
+        refuse(said, "--target needs --depfile", "");
     }
     said->run.command = said->words;
     return said->is_bad ? RUN_FAILED : run(&said->run);
@@ -246,7 +247,7 @@ static const struct command commands[] = {
       "  --wait SECONDS  a call that has waited that long for other steps fails with EDEADLK\n"
       "  --moss          a call also waits for the locks of the steps around its own\n"
       "  --allow-other   other users may use what is mounted\n"
-      "  --no-cache      the kernel asks each time, and keeps nothing that it is told\n"
+      "  --no-cache      the kernel keeps nothing, and asks each time\n"
       "  --foreground    stays until the mount ends\n" },
     { "run", act_run,
       MAY(IN) | MAY(FROM) | MAY(TO) | MAY(AT) | MAY(WAIT) | MAY(MOSS) | MAY(ALL) | MAY(DEPFILE)
@@ -278,8 +279,9 @@ static const struct command commands[] = {
     { "undo", act_about, 0, 1, "nuz undo DIR/NAME\n",
       "Undoes the last change of a step that is not undone yet.\n" },
     { "steps", act_steps, MAY(DOT), 1, "nuz steps [--dot] DIR\n",
-      "Lists the live transactions, how many calls each has made, and who waits for whom.\n"
-      "  --dot  draws who waits for whom, for Graphviz\n" },
+      "Lists the live transactions, how many calls each has made, and which ones wait for\n"
+      "which.\n"
+      "  --dot  writes the waits-for graph, for Graphviz\n" },
     { "save", act_save, MAY(REPLACE), 2, "nuz save [--replace] DIR/NAME TO\n",
       "Copies what NAME (usually job) shows to the directory TO, all or nothing. TO must be\n"
       "missing or empty.\n"
@@ -306,9 +308,9 @@ static void count_words(struct said *said) {
     int wanted = said->command->count;
     int least = wanted == AT_LEAST_ONE ? 1 : wanted;
     if (said->count < least) {
-        refuse(said, "a word is missing", "");
+        refuse(said, "an argument is missing", "");
     } else if (wanted != AT_LEAST_ONE && said->count > wanted) {
-        refuse(said, "this is a word too many: ", said->words[wanted]);
+        refuse(said, "unexpected argument: ", said->words[wanted]);
     }
 }
 

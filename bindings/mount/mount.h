@@ -70,7 +70,7 @@ struct node {
     struct link link;
     struct step *step; /* NULL for DIR and the control file */
     uint64_t number;   /* in the tree */
-    uint64_t lookups;  /* how often the kernel has been told of it */
+    uint64_t lookups;  /* how often the kernel has got it */
     size_t children;   /* how many names are known in it */
     struct name *names;
     bool is_told;      /* whether `told` is what a stat would say */
@@ -81,7 +81,7 @@ struct node {
     size_t opens;      /* how many open files of the kernel use it */
     struct node *next_open, *previous_open;
     size_t marked;     /* the last mark of the step at which a change of it was noted */
-    uint64_t let_go;   /* the last list of what the kernel has to forget that it was put in */
+    uint64_t let_go;   /* the last list of things for the kernel to forget that it was put in */
 };
 
 /* A path of the tree, at the end of a room. */
@@ -118,7 +118,7 @@ struct change {
     uint64_t dir, before, after;
 };
 
-/* Where a change begins that can be undone alone. */
+/* The beginning of a change that can be undone alone. */
 struct mark {
     uint64_t stamp; /* of its first call */
     size_t change;  /* the first of its changes */
@@ -136,9 +136,9 @@ struct step {
     bool is_kept;    /* whether a copy goes on with it */
     bool is_lost;    /* whether the kernel could not write what a program has put into memory */
     bool is_broken;  /* whether a call in it has failed with EDEADLK: */
-    uint64_t *in_way; /* who has to end before it can be tried again */
+    uint64_t *in_way; /* the transactions that must end before it can be tried again */
     size_t in_way_count;
-    size_t steps;    /* how many live ones stand directly in it */
+    size_t steps;    /* how many live ones are directly in it */
     size_t nodes;    /* how many nodes it has */
     uint64_t calls;  /* that were granted, with those of steps that have committed */
     struct node *open; /* its nodes that have a descriptor */
@@ -157,7 +157,7 @@ struct control;
 
 struct step *step_named(const char *name, size_t len);
 struct step *step_of_txn(uint64_t txn);
-/* The outermost transaction around a step that another one does not stand in, or the step. */
+/* The outermost transaction around a step that does not have another one in it, or the step. */
 struct step *step_apart(struct step *step, const struct step *other);
 uint32_t step_begin(const char *name, struct step **begun);
 uint32_t step_begin_in(struct step *parent, char *name, struct step **begun);
@@ -167,7 +167,7 @@ uint32_t step_undo(struct step *step, struct stale **stale);
 void step_free_if_over(struct step *step);
 uint32_t job_begin(void);
 
-/* Counts a call of a step that was granted, and answers its code. */
+/* Counts a call of a step that was granted, and returns its code. */
 uint32_t counted(struct step *step, const nuz_answer *answer, uint32_t code);
 
 /* Notes what a granted call has changed. */
@@ -176,8 +176,8 @@ void note_name(struct node *dir, const char *name, struct node *to, uint64_t num
 void note_content(struct node *node, uint64_t stamp);
 void note_writer(struct step *step, uint64_t stamp);
 
-/* Gives a file its time in the tree, if it has none yet; and tells the stamp of that, unless it is
- * NULL. */
+/* Gives a file its time in the tree, if it has none yet; and returns the stamp of that, unless it
+ * is NULL. */
 uint32_t set_time(struct node *node, uint64_t *stamp);
 
 /* ---- requests of the kernel, and those that wait (waiting.c) */
@@ -185,7 +185,7 @@ uint32_t set_time(struct node *node, uint64_t *stamp);
 /* That a step waits for others. */
 struct wait {
     struct step *step;
-    bool is_given; /* for whom, and not told by a call of the tree */
+    bool is_given; /* for whom, and not by a call of the tree */
     uint64_t *blockers;
     size_t count, room;
     struct timespec until;
@@ -194,7 +194,7 @@ struct wait {
 
 struct request;
 
-/* Carries out a request: answers 0 if it has been replied to, the code of its error, or NUZ_WAITS,
+/* Carries out a request: returns 0 if it has been replied to, the code of its error, or NUZ_WAITS,
  * after which it is carried out again when a transaction has ended. */
 typedef uint32_t operation(struct request *request);
 
@@ -226,7 +226,7 @@ void waits_end_of(const struct step *step);
 /* Whether a request waits that is about something, so that the kernel may have that locked. */
 bool waits_about(fuse_ino_t inode);
 /* Ends the requests that have waited for too long, and those of programs that a signal has come to.
- * Answers in how many milliseconds that is to be done again, or -1 if not before a request. */
+ * Returns in how many milliseconds that is to be done again, or -1 if not before a request. */
 int waits_look(void);
 /* How often it is looked whether a signal has come, in milliseconds. */
 enum { LOOK_EVERY = 100 };
@@ -245,7 +245,7 @@ bool waits_for(const struct step *step, const struct step *other);
 
 int errno_of(uint32_t code);
 
-/* ---- what the kernel has to forget (cache.c) */
+/* ---- things for the kernel to forget (cache.c) */
 
 struct stale *stale_new(void);
 void stale_name(struct stale *stale, struct node *dir, const char *name);
@@ -253,7 +253,7 @@ void stale_node(struct stale *stale, struct node *node);
 /* Tells the kernel, in a thread of its own, and then that so many bytes of a request were written,
  * unless that is NULL. */
 void stale_let_go(struct stale *stale, fuse_req_t reply, size_t written);
-/* Whether the kernel still has to forget a step of a name that has ended. */
+/* Whether the kernel must still forget a step of a name that has ended. */
 bool stale_has_step(const char *name);
 
 /* ---- the kernel's requests (calls.c), and those of the control file (control.c) */
@@ -268,7 +268,7 @@ void control_release(fuse_req_t fuse, struct fuse_file_info *file);
 /* Makes a text the reply to the last request. */
 void control_say(struct control *control, const char *text);
 
-/* Ends a request that ends steps, with what the kernel has to forget. */
+/* Ends a request that ends steps, with the things that the kernel must forget. */
 void ended_steps(struct stale *stale, fuse_req_t reply, size_t written);
 
 /* ---- copies (save.c) */
@@ -277,11 +277,11 @@ struct save {
     struct step *step; /* its own, in the one that is saved */
     char *to;          /* the folder, which it frees */
     bool replaces;
-    fuse_req_t fuse;   /* who has asked for it, by a write */
+    fuse_req_t fuse;   /* the process that asked for it, by a write */
     size_t written;    /* of so many bytes, */
     struct control *control; /* to what it has open until it is replied to */
     bool is_watched;   /* whether a signal has come that did not end it: another one may */
-    bool is_over;      /* whether it has to end */
+    bool is_over;      /* whether it must end */
     pthread_t thread;
     struct save *next;
 };
@@ -289,7 +289,7 @@ struct save {
 /* Begins a copy, which replies when it has ended. */
 uint32_t save_begin(const struct save *save);
 /* Interrupts the copies that have been given up: they may wait for the disk, which may be a mount
- * too. Answers as waits_look does. */
+ * too. Returns what waits_look returns. */
 int saves_look(void);
 
 /* ---- the beginning (load.c) */
@@ -313,14 +313,14 @@ struct mount {
     struct timespec born;
     struct timespec limit; /* of a wait */
     bool has_limit;
-    double kept; /* for how many seconds the kernel may keep what it is told */
+    double kept; /* for how many seconds the kernel may keep its knowledge */
     uid_t user;
     gid_t group;
 };
 
 extern struct mount served;
 
-/* For how long the kernel may keep what it was told, in seconds: until it is told otherwise. */
+/* For how long the kernel may keep its knowledge, in seconds: until it is notified. */
 #define FOREVER 1e9
 
 #endif

@@ -35,7 +35,7 @@ static uint32_t reply_absent(const struct request *request) {
 }
 
 /* Tells the kernel of a step. This never waits, since nothing else could be done in DIR meanwhile:
- * if another step has changed the mode of the root, it is told later, when it is asked for. */
+ * if another step has changed the mode of the root, the kernel learns that later, when it asks. */
 static uint32_t reply_step(const struct request *request, struct step *step) {
     struct node *node = node_of(step, 1);
     nuz_answer ignored;

@@ -39,8 +39,8 @@ static bool write_line(const char *path, const char *line) {
     return is_written;
 }
 
-/* A mount namespace for the process alone; for a user, inside a user namespace in which it stays
- * who it is. */
+/* A mount namespace for only the process; for a user, inside a user namespace in which its user and
+ * group stay the same. */
 static bool have_namespace(void) {
     char users[64], groups[64];
     snprintf(users, sizeof users, "%u %u 1\n", geteuid(), geteuid());
@@ -53,8 +53,9 @@ static bool have_namespace(void) {
         && write_line("/proc/self/uid_map", users) && write_line("/proc/self/gid_map", groups);
 }
 
-/* Goes where the command begins: to the top of the step, or the place in it where `nuz run` was;
- * or, if it is bound over a path, to where `nuz run` was, or to that path. */
+/* Changes to the directory in which the command begins: to the top of the step, or the place in it
+ * where `nuz run` was; or, if it is bound over a path, to the directory of `nuz run`, or to that
+ * path. */
 static bool go_there(const struct job *job, const char *here) {
     char *below = joined(job->path, job->below == NULL ? "" : job->below, "");
     bool is_there = job->at == NULL ? chdir(below) == 0 || chdir(job->path) == 0
@@ -124,7 +125,7 @@ static int status_of(int ended) {
     return WIFSIGNALED(ended) ? 128 + WTERMSIG(ended) : WEXITSTATUS(ended);
 }
 
-/* Begins the command, which tells through a pipe what has failed before it. */
+/* Begins the command, which reports through a pipe any failure before it. */
 static void begin_command(const struct job *job, int to) {
     sigset_t all, before;
     sigfillset(&all);
@@ -140,7 +141,7 @@ static void begin_command(const struct job *job, int to) {
     sigprocmask(SIG_SETMASK, &before, NULL);
 }
 
-/* Waits until the command has ended, and answers its status. */
+/* Waits until the command has ended, and returns its status. */
 static int end_of_command(void) {
     int ended = 0;
     if (command_process < 0) {

@@ -25,7 +25,7 @@ char *joined(const char *one, const char *two, const char *three) {
     return text;
 }
 
-/* ---- where the step goes */
+/* ---- the place of the step */
 
 /* How long a path is without its last name, and the slash before that. */
 static size_t len_above(const char *path, size_t len) {
@@ -67,7 +67,7 @@ static bool find_parent(struct job *job) {
         is_found = true;
     }
     if (!is_found) {
-        complain("run: this is no directory of a mount: say --in, or --from and --to");
+        complain("run: the current directory is not in a mount: give --in, or --from and --to");
     }
     return is_found;
 }
@@ -76,7 +76,7 @@ static bool find_parent(struct job *job) {
 static bool find_named(struct job *job) {
     struct place place;
     if (!place_of(job->run->in, &place)) {
-        complain("run %s: this is no DIR/STEP of a mount of nuz", job->run->in);
+        complain("run %s: not DIR/STEP of a nuz mount", job->run->in);
         place_free(&place);
         return false;
     }
@@ -92,16 +92,16 @@ static bool find_named(struct job *job) {
 /* Says why a step could not begin. */
 static void fails_to_begin(const struct job *job, int number) {
     if (number == EEXIST) {
-        complain("run %s: a transaction has that name, and --in names a new one", job->path);
+        complain("run %s: a transaction has that name, and --in needs a new name", job->path);
     } else if (number == EMEDIUMTYPE) {
-        complain("run %s: this is no DIR/STEP of a mount of nuz", job->path);
+        complain("run %s: not DIR/STEP of a nuz mount", job->path);
     } else {
         complain_of(job->control, number, "run", job->path);
     }
 }
 
 /* Begins the step of a run, which the mount aborts if this process ends before it does so itself.
- * Answers 0 or an errno. (A name is busy until the kernel has forgotten a step that had it.) */
+ * Returns 0 or an errno. (A name is busy until the kernel has forgotten a step that had it.) */
 static int begin_step(struct job *job) {
     if (job->control < 0) {
         job->control = control_of_mount(job->dir);
@@ -134,14 +134,14 @@ static int begin_numbered(struct job *job) {
     return failure;
 }
 
-/* Whether a step can stand in the place of --at: that is not the root, which processes keep, and
- * does not hide the mount. */
+/* Whether a step can take the place of --at: that is not the root, which processes keep, and does
+ * not hide the mount. */
 static bool can_bind(const struct job *job) {
     if (job->at == NULL || !is_at_or_below(job->dir, job->at)) {
         return true;
     }
     complain("run: --at %s: %s", job->at,
-             strcmp(job->at, "/") == 0 ? "nothing can be in the place of the root"
+             strcmp(job->at, "/") == 0 ? "nothing can take the place of the root"
                                        : "the mount of the step is in this directory");
     return false;
 }
@@ -188,7 +188,7 @@ static bool have_own(struct job *job) {
     return true;
 }
 
-/* Finds out where the step of a run is to begin. */
+/* Finds out in which mount and transaction the step of a run is to begin. */
 static bool find(struct job *job) {
     bool is_own = job->run->from != NULL || job->run->to != NULL;
     return is_own                 ? have_own(job)
@@ -196,7 +196,7 @@ static bool find(struct job *job) {
                                   : find_parent(job) && can_bind(job);
 }
 
-/* Begins the step. Answers 0 or an errno, of which it has told. */
+/* Begins the step. Returns 0, or an errno that it has reported. */
 static int begin(struct job *job) {
     int failure = job->parent == NULL ? begin_named(job) : begin_numbered(job);
     if (failure != 0) {
@@ -219,13 +219,13 @@ static bool commit_and_save(struct job *job) {
     return job->run->to == NULL || target_save(&job->target, job->control, "job");
 }
 
-/* Commits the step, and tells what it has touched: at the end, because the files may be in what is
- * saved. Answers the status of the run. */
+/* Commits the step, and reports what it has touched: at the end, because the files may be in the
+ * saved directory. Returns the status of the run. */
 static int commit(struct job *job) {
     struct texts texts = { 0 };
     int status = make_texts(job, &texts) && commit_and_save(job) ? 0 : RUN_FAILED;
     if (status == 0 && !write_texts(job->run, &texts)) {
-        complain("run %s: the step is committed%s all the same", job->path,
+        complain("run %s: the step is committed%s even so", job->path,
                  job->run->to == NULL ? "" : ", and saved,");
         status = NOT_TOLD;
     }
@@ -237,7 +237,7 @@ static int commit(struct job *job) {
 }
 
 /* Whether a call of the command has failed so that steps do not wait for each other: the step may
- * be half of what the command was to do then, whatever its status. Learns who was in its way. */
+ * be half of what the command was to do then, whatever its status. Learns its blockers. */
 static bool is_broken(struct job *job) {
     size_t size;
     if (ask(job->control, "whole", job->name, NULL) != EDEADLK) {
@@ -258,13 +258,13 @@ static void abort_step(struct job *job) {
 
 /* Says that a step is broken, and what comes of that. */
 static void tell_broken(const struct job *job, bool runs_again) {
-    complain("run %s: a call has failed with EDEADLK, so that steps do not wait for each other or "
+    complain("run %s: a call has failed with EDEADLK, because steps would wait for each other or "
              "for too long; the step is aborted, and %s", job->path,
              runs_again ? "the command runs again" : "can be run again, as with --retries");
 }
 
-/* Begins a step again, when those have ended that were in its way. Answers 0, or the status of the
- * run. (Who is told to end begins no more.) */
+/* Begins a step again, when its blockers have ended. Returns 0, or the status of the run. (A run
+ * that was told to end begins no more.) */
 static int begin_again(struct job *job) {
     int failure = begin(job);
     return was_sent() != 0 ? 128 + was_sent()
@@ -272,7 +272,7 @@ static int begin_again(struct job *job) {
          : failure != 0 ? RUN_FAILED : 0;
 }
 
-/* Runs the command in a step, and in others as often as it may while they are broken. Answers the
+/* Runs the command in a step, and in others as often as it may while they are broken. Returns the
  * status of the run. */
 static int run_in_steps(struct job *job) {
     int status = run_command(job);
@@ -289,7 +289,7 @@ static int run_in_steps(struct job *job) {
     return status;
 }
 
-/* Runs the command, and commits its step, or aborts it. Answers the status of the run. */
+/* Runs the command, and commits its step, or aborts it. Returns the status of the run. */
 static int run_and_end(struct job *job) {
     int status = run_in_steps(job);
     if (status == 0) {
@@ -301,7 +301,7 @@ static int run_and_end(struct job *job) {
     return status;
 }
 
-/* Ends the mount of a run. What may still use it goes on to see what it has open. */
+/* Ends the mount of a run. Processes that still use it go on to see what they have open. */
 static void end_own(struct job *job) {
     if (job->control >= 0) {
         close(job->control);

@@ -55,7 +55,7 @@ static void forget(struct save *save) {
     free(save);
 }
 
-/* Says what stood in the way of a copy, and where; or of removing what was there before it. */
+/* Reports why a copy failed, and at which path; or why the old directory could not be removed. */
 static void say(struct save *save, bool is_saved, uint32_t code,
                 const nuz_copy_failure *failure) {
     const char *place = failure->on_disk ? failure->disk : failure->path;
@@ -67,14 +67,14 @@ static void say(struct save *save, bool is_saved, uint32_t code,
     free(text);
 }
 
-/* Whether a copy has its name: what stood in the way may have been in the way of removing what was
- * replaced, which stands beside it. */
+/* Whether a copy has its name: the failure may be that the replaced directory, which is next to it,
+ * could not be removed. */
 static bool has_name(const struct save *save, uint32_t code, const nuz_copy_failure *failure) {
     return code == 0
         || (save->replaces && failure->on_disk && !is_at_or_below(failure->disk, save->to));
 }
 
-/* Ends the transaction of a copy, and replies to who has asked for it. */
+/* Ends the transaction of a copy, and replies to the process that asked for it. */
 static void end(struct save *save, uint32_t code, const nuz_copy_failure *failure) {
     struct stale *stale;
     fuse_req_t fuse = save->fuse;
@@ -119,8 +119,7 @@ static void *copy(void *at) {
     return NULL;
 }
 
-/* Has the program of a copy watched that a signal has come to: the kernel tells of the first one
- * alone. */
+/* Watches a copy's program to which a signal has come: the kernel reports only the first one. */
 static void interrupted(fuse_req_t fuse, void *ignored) {
     (void)ignored;
     pthread_mutex_lock(&served.lock);

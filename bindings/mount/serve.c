@@ -96,11 +96,12 @@ static void prepare(const struct serve_options *options) {
     served.group = getegid();
 }
 
-/* What libfuse 3.14 does not ask the kernel for, even if it is told to: that a name which is waited
- * for does not keep others of its directory waiting, and that set-id bits are left to the mount. */
+/* Two things that libfuse 3.14 does not request from the kernel, even if it is told to: a name
+ * which is waited for does not keep others of its directory waiting, and set-id bits are left to
+ * the mount. */
 enum { ASKED_FOR = FUSE_PARALLEL_DIROPS | FUSE_HANDLE_KILLPRIV };
 
-/* Asks for more, in the reply in which the mount says what it asks for. */
+/* Requests more, in the reply with the options of the mount. */
 static void ask_for_more(const struct iovec *parts, int count) {
     if (count > 1 && parts[1].iov_len > offsetof(struct fuse_init_out, flags)) {
         struct fuse_init_out *init = parts[1].iov_base;
@@ -125,7 +126,7 @@ static ssize_t read_request(int fd, void *buffer, size_t room, void *ignored) {
 }
 
 /* How a mount is used: by all users, by the modes of what is in it; by the user who has mounted, by
- * them too; or by root, to whom they forbid nothing, so that the kernel need not ask for them. */
+ * them too; or by root, to whom they forbid nothing, so that the kernel need not check them. */
 static char *use_of(const struct serve_options *options) {
     return options->is_for_all ? "fsname=nuz,subtype=nuz,default_permissions,allow_other"
          : served.user != 0    ? "fsname=nuz,subtype=nuz,default_permissions"
@@ -146,7 +147,7 @@ static bool open_session(const struct serve_options *options) {
         && fuse_session_custom_io(served.session, &io, fuse_session_fd(served.session)) == 0;
 }
 
-/* Waits for a request, or until there is something to do for those that wait. Answers whether a
+/* Waits for a request, or until there is something to do for those that wait. Returns whether a
  * request came. */
 static bool has_request(void) {
     pthread_mutex_lock(&served.lock);
@@ -247,7 +248,7 @@ static void end_with_parent(const struct serve_options *options, pid_t parent) {
     }
 }
 
-/* What the process behind a mount does. It keeps nothing open that somebody waits to be closed. */
+/* The work of the process of a mount. It keeps nothing open that somebody waits to be closed. */
 static _Noreturn void be_mount(const struct serve_options *options, pid_t parent,
                                const int ready[2]) {
     unsigned kept = (unsigned)ready[1];
@@ -264,7 +265,7 @@ static _Noreturn void be_mount(const struct serve_options *options, pid_t parent
     exit(serve_until_end(options, ready[1]));
 }
 
-/* Begins a mount in a process of its own, and answers that when it can be used, or -1. */
+/* Begins a mount in a process of its own, and returns when it can be used, or -1. */
 pid_t serve_begin(const struct serve_options *options) {
     int ready[2];
     char done;

@@ -1,4 +1,4 @@
-/* Steps: the transactions that stand in DIR, what they have changed, and how they end. */
+/* Steps: the transactions in DIR, what they have changed, and how they end. */
 #include "mount.h"
 
 #include <stdio.h>
@@ -224,7 +224,7 @@ static struct node *adopt(struct step *step, const struct node *other) {
 }
 
 /* The directory of a change, as a step knows it. If something is used there that a step of it has
- * moved to where the step has not looked, it gets to know that. */
+ * moved to a place at which the step has not looked, the step learns that. */
 static struct node *dir_of_change(struct step *step, const struct change *change,
                                   const struct node *moved, const struct step *by) {
     struct node *dir = node_find(step, change->dir);
@@ -267,8 +267,8 @@ static void drop_marks(struct step *step) {
     step->has_committed = false;
 }
 
-/* Hands what a step has changed to the one around it. (Nothing stands around the job, so that it
- * needs to keep no changes that can't be undone.) */
+/* Hands what a step has changed to the one around it. (Nothing is around the job, so that it needs
+ * to keep no changes that can't be undone.) */
 static void hand_up(struct step *step, struct stale *stale) {
     struct step *parent = step->parent;
     parent->calls += step->calls;
@@ -298,7 +298,7 @@ void step_free_if_over(struct step *step) {
     free(step);
 }
 
-/* Takes a step that has ended out of DIR. What the kernel still knows of it is stale. */
+/* Takes a step that has ended out of DIR. The kernel's knowledge of it is stale. */
 static void end(struct step *step, struct stale *stale) {
     struct step **at = &served.steps;
     while (*at != step) {

@@ -6,7 +6,7 @@
 /* Ends the mount: what it has noted of the tree would not be true without this memory. */
 static void *memory_or_end(void *at) {
     if (at == NULL) {
-        fprintf(stderr, "nuz: no memory\n");
+        fprintf(stderr, "nuz: out of memory\n");
         abort();
     }
     return at;
@@ -47,7 +47,7 @@ static void put(struct table *table, struct link *link) {
     *slot = link;
 }
 
-/* Puts all things of a place where they go. */
+/* Puts all things of a place into their new places. */
 static void put_all(struct table *table, struct link *link) {
     while (link != NULL) {
         struct link *next = link->next;

@@ -44,7 +44,7 @@ static bool has_mount(const char *path) {
     return each != NULL;
 }
 
-/* Whether a directory has nothing in it, or else errno tells why not. */
+/* Whether a directory has nothing in it; if not, errno says why. */
 static bool is_empty(const char *path) {
     struct dirent **names = NULL;
     int count = scandir(path, &names, NULL, NULL);
@@ -203,7 +203,7 @@ bool target_save(const struct target *target, int control, const char *name) {
 static bool save_of(const struct place *place, const char *path, struct target *target) {
     int control = control_of_mount(place->dir);
     if (control < 0 && errno == EMEDIUMTYPE) {
-        complain("save %s: this is no DIR/NAME of a mount of nuz", path);
+        complain("save %s: not DIR/NAME of a nuz mount", path);
         return false;
     } else if (control < 0) {
         return fails("save", path);
@@ -219,7 +219,7 @@ int save(const char *path, const char *to, bool replaces) {
     struct place place;
     bool has_name = place_of(path, &place), is_saved = has_name && save_of(&place, path, &target);
     if (!has_name) {
-        complain("save %s: this is no DIR/NAME of a mount of nuz", path);
+        complain("save %s: not DIR/NAME of a nuz mount", path);
     }
     place_free(&place);
     return is_saved ? DONE : NOT_DONE;

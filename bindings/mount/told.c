@@ -1,4 +1,4 @@
-/* What nuz run tells of its step: a depfile and a manifest. */
+/* The reports of nuz run about its step: a depfile and a manifest. */
 #define _GNU_SOURCE
 #include "commands.h"
 
@@ -37,7 +37,7 @@ static bool is_special(const char *path) {
     return stat(path, &status) == 0 && !S_ISREG(status.st_mode) && !S_ISDIR(status.st_mode);
 }
 
-/* Whether files can be made in the directory that a path stands in. */
+/* Whether files can be made in the directory of a path. */
 static bool has_directory(const char *path) {
     struct place place;
     struct stat status;
@@ -69,7 +69,7 @@ static bool has_place(const char *what, const char *path) {
     return is_good || fails(what, path);
 }
 
-/* Where a path leads, seen from the directory that is saved to. */
+/* The path of a file as seen from the directory that is saved to. */
 enum where { ELSEWHERE, ITSELF, BELOW };
 
 /* Whether a path leads into the directory that is saved to, which is another one then. */
@@ -127,7 +127,7 @@ static mode_t mode_of(const char *path) {
     return stat(path, &status) == 0 ? status.st_mode & 0777 : 0666 & ~mask;
 }
 
-/* Makes a file beside the place of another one, in which it is put when it is whole. */
+/* Makes a file next to another one, which it replaces when it is whole. */
 static bool put_beside(const char *path, const char *text) {
     struct place place;
     if (!place_of(path, &place)) {
@@ -171,7 +171,7 @@ bool write_texts(const struct run *run, const struct texts *texts) {
 
 /* ---- texts */
 
-/* What the mount tells of the step, which is still live, or NULL. */
+/* The mount's report about the step, which is still live, or NULL. */
 static char *asked_for(const struct job *job, const char *word, const char *rest) {
     size_t size = 0;
     int number = ask(job->control, word, job->name, rest);
@@ -187,7 +187,7 @@ static char *asked_for(const struct job *job, const char *word, const char *rest
     return text;
 }
 
-/* ---- where the files of a depfile are */
+/* ---- the places of the files of a depfile */
 
 /* The directory that has the tree when the step has committed. */
 static char *top_of_mount(const struct job *job) {
@@ -202,7 +202,7 @@ static char *top_of_mount(const struct job *job) {
     return top;
 }
 
-/* How a depfile has the current directory, with a slash behind it, or NULL. */
+/* The text by which a depfile names the current directory, with a slash at its end, or NULL. */
 static char *form_of_here(void) {
     nuz_tree *tree = NULL;
     nuz_answer answer = { 0 };
@@ -221,8 +221,8 @@ static char *form_of_here(void) {
     return slash == NULL ? NULL : strndup(form, (size_t)(slash + 1 - form));
 }
 
-/* Leaves out of a depfile where the names in the current directory begin with that. A name begins
- * behind a blank without a backslash. */
+/* Leaves that text out of a depfile if the names in the current directory begin with it. A name
+ * begins after a blank without a backslash. */
 static void make_relative(char *text) {
     char *here = form_of_here(), *to = text, before = ' ';
     size_t len = here == NULL ? 0 : strlen(here);
@@ -240,7 +240,7 @@ static void make_relative(char *text) {
 
 /* ---- depfiles */
 
-/* A depfile whose paths stand below a directory. */
+/* A depfile whose paths are below a directory. */
 static char *depfile_below(const struct job *job, const char *top) {
     const char *target = job->run->target;
     char *rest = joined(top, target == NULL ? "" : "\n", target == NULL ? "" : target);

@@ -1,4 +1,4 @@
-/* What a step has touched, as the control file tells it. */
+/* The paths that a step has touched, as the control file reports them. */
 #include "mount.h"
 
 #include "commands.h"
@@ -54,7 +54,7 @@ static bool has_no_form(char *name, bool is_target) {
     return nuz_depfile(served.tree, 0, name, NULL, NULL, 0, &answer) == NUZ_BAD;
 }
 
-/* What is looked for: a name without a form, of those that a depfile has to have. */
+/* The wanted thing: a name without a form, of those that a depfile must have. */
 struct search {
     const struct asked *asked;
     char *found;

@@ -22,7 +22,7 @@ int errno_of(uint32_t code) {
     }
 }
 
-/* ---- who waits for whom */
+/* ---- which step waits for which */
 
 /* Learns for whom a step waits, from the call that it has made last, unless that is given. */
 static void learn_blockers(struct wait *wait) {
@@ -144,8 +144,8 @@ bool waits_about(fuse_ino_t inode) {
     return each != NULL;
 }
 
-/* Notes that a call in a step fails with EDEADLK, and who was in the way of the first one. (Who
- * stands around them gets their locks.) */
+/* Notes that a call in a step fails with EDEADLK, and the blockers of the first one. (The
+ * transactions around them get their locks.) */
 static void note_broken(const struct wait *wait) {
     struct step *step = wait->step;
     if (step->is_broken) {
@@ -161,7 +161,7 @@ static void note_broken(const struct wait *wait) {
     }
 }
 
-/* Ends a request that has waited, or would have to, with an error. */
+/* Ends a request that has waited, or would wait, with an error. */
 static void fail(const struct request *request, uint32_t code) {
     if (code == EDEADLK) {
         note_broken(&request->wait);
@@ -184,7 +184,7 @@ static void leave(struct request **at, uint32_t code) {
     free(request);
 }
 
-/* Makes a request again. Answers whether it is still kept. */
+/* Makes a request again. Returns whether it is still kept. */
 static bool try_again(struct request **at) {
     struct request *request = *at;
     uint32_t code = request->make(request);
@@ -298,7 +298,7 @@ bool has_signal(fuse_req_t fuse) {
 }
 
 /* Ends the request of a program that a signal has come to, if it waits; or has it watched. (The
- * kernel tells of the first signal alone.) */
+ * kernel reports only the first signal.) */
 static void interrupted(fuse_req_t fuse, void *ignored) {
     (void)ignored;
     pthread_mutex_lock(&served.lock);
@@ -342,7 +342,7 @@ static void keep(const struct request *request) {
 }
 
 /* Has a request wait, unless it closes a cycle of waits. (The others are made again first: they may
- * wait for more than when they were made last, since who reads what is read goes on.) */
+ * wait for more than when they were made last, since a reader of what is read goes on.) */
 static void park(struct request *request) {
     struct wait *wait = &request->wait;
     wait->until = time_ahead(served.limit);

@@ -3,7 +3,7 @@
 It is what pyproject.toml names too, so that pip builds one by itself, of what make has built.
 
 It needs nothing but Python and nm. The wheel is for each Python 3.9 and later, and for each Linux
-on x86-64 whose C library is as new as the library needs, by what nm tells of it. The same files
+on x86-64 whose C library is as new as the library needs, by the output of nm. The same files
 make the same wheel.
 """
 from __future__ import annotations
@@ -58,7 +58,7 @@ def tag_of(library: Path) -> str:
 
 
 def files_of(version: str, library: Path, tag: str) -> dict[str, bytes]:
-    """The files of the wheel but for the list of them."""
+    """The files of the wheel, except the list of them."""
     package = sorted((HERE / "nuzolged").glob("*.py")) + [HERE / "nuzolged" / "py.typed"]
     files = {f"nuzolged/{file.name}": file.read_bytes() for file in package}
     files["nuzolged/libnuzolged.so.1"] = library.read_bytes()
@@ -79,7 +79,7 @@ def record(name: str, data: bytes) -> str:
 def build_wheel(
     wheel_directory: str, config_settings: object = None, metadata_directory: object = None
 ) -> str:
-    """Builds the wheel for pip, and answers the name of its file."""
+    """Builds the wheel for pip, and returns the name of its file."""
     library = HERE.parent / "out" / "libnuzolged.so.1"
     if not library.is_file():
         sys.exit(f"there is no {library}: build it by make -C bindings")

@@ -152,25 +152,26 @@ class StatusTest(RunTest):
     def test_wrong_words(self) -> None:
         for words, why in (
                 ([], "a command is missing"), (["frob"], "there is no such command: frob"),
-                (["mount"], "mount: a word is missing"), (["commit"], "commit: a word is missing"),
-                (["save", "a"], "save: a word is missing"),
-                (["undo", "a", "b"], "undo: this is a word too many: b"),
+                (["mount"], "mount: an argument is missing"),
+                (["commit"], "commit: an argument is missing"),
+                (["save", "a"], "save: an argument is missing"),
+                (["undo", "a", "b"], "undo: unexpected argument: b"),
                 (["mount", "--frob", "a"], "mount: there is no such option, .*: --frob"),
                 (["commit", "--from", "a", "b"], "commit: there is no such option"),
-                (["mount", "a", "--wait"], "mount: a word is missing behind --wait"),
-                (["mount", "a", "--wait", "abc"], "mount: this is no number of seconds: abc")):
+                (["mount", "a", "--wait"], "mount: an argument is missing after --wait"),
+                (["mount", "a", "--wait", "abc"], "mount: not a number of seconds: abc")):
             with self.subTest(words=words):
                 self.assertRegex(mounts.nuz(*words, status=2).stderr, f"^nuz: {why}")
         for words, why in (
-                (["--"], "a word is missing"),
-                (["--replace", "--", "true"], "--replace is of --to"),
-                (["--wait", "abc", "--", "true"], "this is no number of seconds: abc"),
-                (["--wait", "1", "--", "true"], "--wait, .* are of a mount of its own"),
-                (["--allow-other", "--", "true"], ".* --allow-other are of a mount of its own"),
-                (["--retries", "-1", "--", "true"], "this is no number: -1"),
-                (["--retries", "2x", "--", "true"], "this is no number: 2x"),
-                (["--in", "a", "--to", "b", "--", "true"], "--in is of a mount that is there"),
-                (["--target", "a", "--", "true"], "--target is of --depfile")):
+                (["--"], "an argument is missing"),
+                (["--replace", "--", "true"], "--replace needs --to"),
+                (["--wait", "abc", "--", "true"], "not a number of seconds: abc"),
+                (["--wait", "1", "--", "true"], "--wait, .* need a mount of its own"),
+                (["--allow-other", "--", "true"], ".* --allow-other need a mount of its own"),
+                (["--retries", "-1", "--", "true"], "not a number: -1"),
+                (["--retries", "2x", "--", "true"], "not a number: 2x"),
+                (["--in", "a", "--to", "b", "--", "true"], "--in is for an existing mount"),
+                (["--target", "a", "--", "true"], "--target needs --depfile")):
             with self.subTest(words=words):
                 self.assertRegex(self.run_it(*words, status=125).stderr, f"^nuz: run: {why}")
 
@@ -192,7 +193,7 @@ class StatusTest(RunTest):
         os.mkfifo(self.source / "pipe")
         for words, why in (
                 ([self.source / "file"], "Not a directory"),
-                ([mounted.top], "there is a mount of nuz already"),
+                ([mounted.top], "a nuz mount is already there"),
                 (["--from", self.source, self.disk / "told"], "source/pipe: pipes, sockets"),
                 (["--from", self.disk / "nothing", self.disk / "told"], "No such file")):
             with self.subTest(words=words):
@@ -235,9 +236,9 @@ class StatusTest(RunTest):
             for words in (["commit", path], ["abort", path], ["undo", path],
                           ["save", path, self.target]):
                 with self.subTest(words=words):
-                    self.assertIn("this is no DIR/NAME", mounts.nuz(*words, status=1).stderr)
+                    self.assertIn("not DIR/NAME", mounts.nuz(*words, status=1).stderr)
         mounted = self.mount()
-        for path, why in (("/", "this is no DIR/STEP"), (self.source, "this is no DIR/STEP"),
+        for path, why in (("/", "not DIR/STEP"), (self.source, "not DIR/STEP"),
                           (mounted.job, "a transaction has that name")):
             with self.subTest(path=path):
                 self.assertIn(why, self.run_it("--in", path, "--", "true", status=125).stderr)

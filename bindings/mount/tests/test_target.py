@@ -227,7 +227,7 @@ class AtTest(RunTest):
         os.symlink("/", self.disk / "told")
         mounted = self.mount()
         for at, words, why in (
-                ("/", ["--from", self.source], "nothing can be in the place of the root"),
+                ("/", ["--from", self.source], "nothing can take the place of the root"),
                 (self.disk / "told", ["--from", self.source], "in the place of the root"),
                 (self.temporary, ["--from", self.source], "the mount of the step is in this"),
                 (self.disk, ["--from", self.source], "the mount of the step is in this"),

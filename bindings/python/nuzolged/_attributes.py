@@ -10,7 +10,7 @@ from . import _library
 #: The mode of a directory for which none is given: there is no umask.
 DIRECTORY_MODE = 0o755
 
-#: What a mode of `os.stat` tells beside the permissions: the kind.
+#: The bits of a mode of `os.stat` besides the permissions: the kind.
 _KIND = 0o170000
 
 _NANOSECONDS = 1_000_000_000

@@ -42,7 +42,7 @@ class Calls:
     #: The number of the transaction that makes the calls, and its tree.
     number: int
     session: Session
-    #: How many seconds a call waits for others to end; with None, as long as it has to.
+    #: How many seconds a blocked call waits for others to end; with None, without a limit.
     timeout: float | None
 
     @property
@@ -64,14 +64,14 @@ class Calls:
         """Makes a directory.
 
         Args:
-            path: Its path. The directory above it has to exist.
+            path: Its path. The directory above it must exist.
             mode: Its mode, at most 0o7777: there is no umask. The kind that `st_mode` also has is
                 ignored.
             exist_ok: Whether it may exist already; then its mode stays.
 
         Raises:
             FileExistsError: The path leads to something; with `exist_ok`, to a file.
-            FileNotFoundError: What is above it is missing.
+            FileNotFoundError: A directory above it is missing.
             OSError: EINVAL if the mode is above 0o7777.
         """
         bits = mode_of(mode)
@@ -145,7 +145,7 @@ class Calls:
         Raises:
             FileNotFoundError: It leads to nothing.
             NotADirectoryError: It continues after a file.
-            OSError: ELOOP where it leads through more than 40 symbolic links.
+            OSError: ELOOP if it leads through more than 40 symbolic links.
         """
         raw = encoded(path)
         request = "nuz_stat" if follow_symlinks else "nuz_lstat", (self.number, raw, len(raw))
@@ -178,14 +178,14 @@ class Calls:
         """Makes a symbolic link.
 
         Args:
-            target: Where it leads. It stays as given, and need not lead to anything. A relative
-                one begins in the directory of the link.
+            target: Its target. It stays as given, and need not lead to anything. A relative one
+                begins in the directory of the link.
             path: Its path.
 
         Raises:
             FileExistsError: The path leads to something, or is a symbolic link.
-            FileNotFoundError: What is above it is missing, or the target is empty.
-            OSError: ENAMETOOLONG where the target has more than 4,095 bytes.
+            FileNotFoundError: A directory above it is missing, or the target is empty.
+            OSError: ENAMETOOLONG if the target has more than 4,095 bytes.
         """
         self._on_both("nuz_symlink", target, path)
 
@@ -377,16 +377,16 @@ class Calls:
             path: Its path.
             mode: As of Python's `open`.
             buffering: 0 for no buffer, 1 for lines of text, more for so many bytes.
-            encoding: That of a text: UTF-8 where none is given.
+            encoding: For a text; UTF-8 if none is given.
             errors: For a text, as of Python's `open`.
             newline: For a text, as of Python's `open`.
-            permissions: What `os.open` calls its mode: those of a file that is made, 0o644 if none
-                are given; there is no umask. A file that is there keeps its own.
+            permissions: Those of a file that is made (`mode` of `os.open`): 0o644 if none are
+                given. There is no umask. An existing file keeps its own.
 
         Raises:
             FileNotFoundError, FileExistsError, IsADirectoryError: As of Python's `open`.
             OSError: EINVAL if the permissions are above 0o7777.
-            ValueError: The mode is none.
+            ValueError: The mode is not valid.
         """
         text = (encoding, errors, newline)
         return _file.opened(self, path, mode, buffering, text, permissions)

@@ -19,13 +19,14 @@ from ._tree import Tree
 
 SET_ID, REPLACE, SYNC = 1, 2, 4
 
-#: What is around each request of a copy: it is given a context, what makes one, and the request.
+#: The type of the function around each request of a copy. Its arguments are a context, the function
+#: that makes the request, and the request.
 _Around = ctypes.CFUNCTYPE(ctypes.c_uint32, ctypes.c_void_p, ctypes.c_void_p, ctypes.c_void_p)
 
-#: How many bytes a path has room for in a failure.
+#: How many bytes of a path a failure has room for.
 _ROOM = 4096
 
-#: With what a copy ends that an exception has ended.
+#: The code of a copy that an exception has ended.
 _RAISED = 9999
 
 
@@ -142,7 +143,7 @@ class _Copy:
 
     def __init__(self, transaction: Transaction) -> None:
         self._transaction = transaction
-        #: What a request has raised.
+        #: The exception of a request.
         self._raised: BaseException | None = None
 
     def make(self, function: Callable[..., int], *args: object, flags: int) -> None:

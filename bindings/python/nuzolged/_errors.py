@@ -1,4 +1,4 @@
-"""Why a request was not carried out."""
+"""The reasons why a request was not carried out."""
 from __future__ import annotations
 
 import errno
@@ -12,7 +12,7 @@ AnyPath = Union[str, bytes, "os.PathLike[str]", "os.PathLike[bytes]"]
 
 
 class Error(Exception):
-    """Why a request was not carried out, if not by the errno of a call: `Waits` or `Refused`."""
+    """A request was not carried out, for another reason than an errno: `Waits` or `Refused`."""
 
 
 class Waits(OSError, Error):
@@ -39,7 +39,7 @@ class Waits(OSError, Error):
 
 class Deadlock(Waits):
     """The call would wait forever: each of the transactions `cycle` waits for the next one, and the
-    last waits for the first, which made the call. The call is forgotten. Abort that transaction, or
+    last waits for the first, which made the call. The call is cancelled. Abort that transaction, or
     let it do something else; the others then continue."""
 
     cycle: list[int]

@@ -158,9 +158,9 @@ class RawFile(io.RawIOBase):
         return info_of(self._ask("nuz_fstat"))
 
     def close(self) -> None:
-        """Closes the file. If that has to wait, or lacks memory, the file is still open, and may be
-        closed again. A file that nobody has any more does not wait: what is left to write and to
-        close is done before its transaction commits."""
+        """Closes the file. If that is blocked, or lacks memory, the file is still open, and may be
+        closed again. A file that nobody has any more does not wait: its last writes and its close
+        are made before its transaction commits."""
         if self.closed:
             return
         if self._fd is None:

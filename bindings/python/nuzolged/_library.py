@@ -1,4 +1,4 @@
-"""The functions of nuzolged.h and of what stands over it, whose headers say what each takes and
+"""The functions of nuzolged.h and of the C files on top of it. Their headers describe arguments and
 answers."""
 from __future__ import annotations
 
@@ -19,13 +19,13 @@ READ_ONLY, WRITE_ONLY, READ_WRITE = 0, 1, 2
 CREATE, EXCL, TRUNC, APPEND = 0o100, 0o200, 0o1000, 0o2000
 RELAXED, MOSS, FAIR = 0, 1, 2
 
-#: The mode that stands for none that is given.
+#: The mode that means that none is given.
 DEFAULT_MODE = (1 << 32) - 1
 
-#: An owner or a group that stays.
+#: The owner or group that leaves the old one.
 STAYS = (1 << 32) - 1
 
-#: How many bytes a request writes at most: a copy is made of them.
+#: The most bytes that a request writes: it makes a copy of them.
 MOST_WRITTEN = 1 << 26
 
 MEMORY = 1001
@@ -33,32 +33,32 @@ FULL = 1007
 WAITS = 1100
 BAD = 1201
 
-#: What this package answers, in the place of the library, where a tree is closed.
+#: The code that this package returns, in place of the library, if a tree is closed.
 CLOSED = 1200
 
 #: The refusals 1001 and on, by the names that a script has for them (docs/SCRIPT.md).
 REFUSALS = {
-    "Memory": "there is no memory",
+    "Memory": "there is not enough memory",
     "NoTxn": "there is no such transaction",
     "Ended": "the transaction has ended",
     "ChildLive": "the transaction has a live step",
     "NothingToUndo": "there is no call to undo",
     "SubSince": "a step has committed since the last call",
-    "Full": "all transactions or calls are used up",
-    "Deep": "the transaction is too deep",
+    "Full": "the limit on transactions or calls is reached",
+    "Deep": "the transaction is at the greatest depth",
     "Live": "a transaction is live",
     "NoAsk": "the transaction waits for no call",
 }
 
 
 def name_of(code: int) -> str:
-    """The name of a refusal; of one that a later library knows, its code."""
+    """Returns the name of a refusal, or its code if only a later library knows it."""
     names = dict(enumerate(REFUSALS, MEMORY))
     return names.get(code, str(code))
 
 
 class Limits(ctypes.Structure):
-    """`nuz_limits`: what a tree allows."""
+    """`nuz_limits`: the limits of a tree."""
 
     _fields_ = [
         ("file_size", c_uint64),
@@ -71,8 +71,8 @@ class Limits(ctypes.Structure):
 
 
 class Numbers(NamedTuple):
-    """What an answer tells in numbers: the members of `nuz_answer`, of which each is in its place,
-    up to the length of a reply."""
+    """The numbers of an answer: the members of `nuz_answer`, each in its place, up to the length of
+    a reply."""
 
     code: int
     kind: int = 0
@@ -90,22 +90,22 @@ class Numbers(NamedTuple):
 
 
 class Answer(Numbers):
-    """What a request came to, with the parts that were asked for with it."""
+    """The outcome of a request, with the parts that were requested with it."""
 
-    #: For which transactions a call waits.
+    #: The transactions for which a call waits.
     blockers: list[int] = []
-    #: Where it waits for ever: the transactions that wait for each other.
+    #: If it would wait for ever, the transactions that wait for each other.
     cycle: list[int] = []
-    #: The names of a list, each with the kind of what it is of.
+    #: The names of a list, each with its kind.
     names: list[tuple[bytes, int]] = []
     #: The reply to a line.
     text: bytes = b""
 
 
-#: What makes a request of a copy, of a tree.
+#: The type of a C function that makes a request of a copy, of a tree.
 _COPY_REQUEST = ctypes.CFUNCTYPE(c_uint32, c_void_p, c_void_p)
 
-#: How many bytes `nuz_answer` has, and how its members stand in it.
+#: The size of `nuz_answer` in bytes, and the layout of its members.
 _ANSWER_SIZE = 192
 _ANSWER = struct.Struct("@IIQQQQIII?qIQ")
 
@@ -116,7 +116,7 @@ _NUMBERS = (c_void_p, c_size_t)
 _OWNERS = (c_uint32, c_uint32)
 _TIME = (c_int64, c_uint32)
 
-#: What each function takes between the tree and the answer, which it fills in.
+#: The arguments of each function between the tree and the answer, which it fills in.
 _FUNCTIONS: dict[str, tuple[type, ...]] = {
     "nuz_begin": (),
     "nuz_begin_sub": (c_uint64,),
@@ -163,7 +163,7 @@ _FUNCTIONS: dict[str, tuple[type, ...]] = {
 
 
 def signed(number: int) -> int:
-    """An offset or a size, which has to be one of 64 bits: ctypes would cut it to them."""
+    """Returns an offset or a size, which must have at most 64 bits: ctypes would cut it to them."""
     number = operator.index(number)
     if not -(1 << 63) <= number < 1 << 63:
         raise OverflowError(f"an offset or a size of more than 64 bits: {number}")
@@ -171,9 +171,9 @@ def signed(number: int) -> int:
 
 
 def _places() -> Iterator[str]:
-    """Where the library may be: where NUZOLGED_LIBRARY says; in this package, as a wheel has it;
-    where `make` builds it beside this package; in the lib folder of the place that this package was
-    installed in; and else wherever the system finds libraries."""
+    """The places where the library may be: the file that NUZOLGED_LIBRARY names; this package, as
+    in a wheel; the folder into which `make` builds it; the lib folder of the place where this
+    package was installed; and else the places where the system looks for libraries."""
     named = os.environ.get("NUZOLGED_LIBRARY")
     if named:
         yield named
@@ -224,8 +224,8 @@ class OpenTree:
         return function
 
     def copy_request(self, _: int, make: int, request: int) -> Answer:
-        """Makes a request of a copy, by a function of C: its number is the code, unless it has to
-        wait."""
+        """Makes a request of a copy, by a C function: the answer's number is the code, unless the
+        request is blocked."""
         code = _COPY_REQUEST(make)(self._tree, request)
         if code != WAITS:
             return Answer(0, number=code)
@@ -234,15 +234,15 @@ class OpenTree:
 
 
 class ClosedTree:
-    """The same for a tree that is closed."""
+    """The functions of the library for a closed tree."""
 
     def __getattr__(self, _: str) -> Callable[..., Answer]:
         return lambda *_: Answer(CLOSED)
 
 
 def _bound(function: Callable[..., int], tree: int) -> Callable[..., Answer]:
-    """A function for a tree, which gives the answer that it fills in. (Each has room of its own for
-    that, so that what a finalizer asks of another one is not mixed up with it.)"""
+    """Returns a function for a tree, which returns the answer that it fills in. (Each function has
+    room of its own for the answer, so that a finalizer's request through another one leaves it.)"""
     room = ctypes.create_string_buffer(_ANSWER_SIZE)
     at = ctypes.addressof(room)
     unpack, make = _ANSWER.unpack_from, tuple.__new__

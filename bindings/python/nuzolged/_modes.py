@@ -13,7 +13,7 @@ BinaryMode = Literal["rb", "wb", "ab", "xb", "r+b", "w+b", "a+b", "x+b", "rb+", 
 
 
 class Mode(NamedTuple):
-    """What a mode of `open` asks for."""
+    """The meaning of a mode of `open`."""
 
     is_text: bool
     reads: bool
@@ -60,6 +60,6 @@ class Mode(NamedTuple):
 
     @property
     def raw_name(self) -> str:
-        """The mode as a file without a buffer tells it."""
+        """The mode as the `mode` of a file without a buffer."""
         kind = "x" if self.is_new else "a" if self.appends else "w" if self.cuts else "r"
         return kind + "b" + ("+" if self.reads and self.writes else "")

@@ -1,8 +1,8 @@
 """A tree of the library, one request at a time, each with the parts of its answer.
 
-The library keeps the last answer, of which names, blockers and replies are parts. So no other
-request may come between a request and its parts: other threads wait for the lock, and what a
-finalizer asks for, which the garbage collector may run anywhere, is put off until behind them.
+The library keeps the last answer, and names, blockers and replies are parts of it. Therefore no
+other request may come between a request and its parts. Other threads wait for the lock. The garbage
+collector may run a finalizer anywhere, so the requests of finalizers are put off until later.
 """
 from __future__ import annotations
 
@@ -29,7 +29,7 @@ _MOST_PAUSE = 0.05
 #: How many members of a cycle are asked for.
 _CYCLE_ROOM = 16
 
-#: The codes of what may be carried out when it is asked for again.
+#: The codes of requests that may succeed when they are made again.
 _MAY_COME = (WAITS, MEMORY, FULL)
 
 #: The codes that are no reply to a line.
@@ -44,16 +44,16 @@ class Session:
 
     _at: int | None = None
 
-    #: What answers in the place of the library once the tree is closed.
+    #: Answers in place of the library once the tree is closed.
     _closed: Any = ClosedTree()
 
     def __init__(self, options: int, limits: Limits, keeps_waits: bool) -> None:
         handle = ctypes.c_void_p()
-        #: Whether a call that does not wait, and has to, is kept.
+        #: Whether a blocked call with no time to wait stays the transaction's pending call.
         self._keeps_waits = keeps_waits
         self._renew_lock()
-        #: Whether who has the lock is between a request and its parts. (Where an interrupt comes
-        #: too soon it stays, and nobody has the lock.)
+        #: Whether the thread with the lock is between a request and its parts. (If an interrupt
+        #: comes too soon, it stays set although no thread has the lock.)
         self._is_amid = False
         self._late: collections.deque[Late] = collections.deque()
         #: The live transactions that somebody had when they began, by their numbers.
@@ -98,9 +98,9 @@ class Session:
         timeout: float | None = 0,
         parts: Parts = None,
     ) -> Answer:
-        """Makes a request, and raises what stood in its way, about these paths. One that has to
-        wait is made again when a transaction has ended or waits no longer, and every 50
-        milliseconds, for so many seconds."""
+        """Makes a request, and raises its error, with these paths. A blocked request is made again
+        whenever a transaction has ended or waits no longer, and every 50 milliseconds, for so many
+        seconds."""
         if timeout == 0 and self._keeps_waits:
             answer = self._once(request, parts)
         else:
@@ -116,7 +116,7 @@ class Session:
         raise Waits(answer.blockers, *paths)
 
     def end(self, request: Request) -> Answer:
-        """Makes a request by which transactions may end, and wakes who waits for them."""
+        """Makes a request by which transactions may end, and wakes the threads that wait."""
         try:
             return self.ask(request)
         finally:
@@ -164,28 +164,30 @@ class Session:
         self._held.pop(number, None)
 
     def _abort_unknown(self) -> None:
-        """Aborts what the last request began, where an interrupt has lost its number."""
+        """Aborts the transaction that the last request began, if an interrupt has lost its
+        number."""
         words = self._text().split()
         if words[:1] == [b"txn"] and int(words[1]) > self.newest:
             self.newest = int(words[1])
             self._library.nuz_abort(self.newest)
 
     def _wait(self, request: Request, parts: Parts, timeout: float | None) -> Answer:
-        """Makes a request, and again where it has to wait. In the end it is forgotten, so that no
-        report lists it, and nobody waits behind it."""
+        """Makes a request, and makes it again while it is blocked, until the time is over or it
+        would wait for ever. Then it is cancelled, so that no report shows it as waiting, and no
+        other request waits behind it."""
         with self.lock:
             answer = self._once(request, parts)
             if answer.code == WAITS:
                 try:
                     answer = self._wait_on(answer, request, parts, timeout)
                 finally:
-                    self._forget(request[1][0])
+                    self._cancel(request[1][0])
             return answer
 
     def _wait_on(
         self, answer: Answer, request: Request, parts: Parts, timeout: float | None
     ) -> Answer:
-        """Makes a request that waits again, until the time is over or it would wait for ever."""
+        """Makes a blocked request again, until the time is over or it would wait for ever."""
         end = _end_of(timeout)
         while answer.code == WAITS:
             left = _MOST_PAUSE if end is None else end - time.monotonic()
@@ -196,15 +198,15 @@ class Session:
             answer = self._once(request, parts)
         return answer
 
-    def _forget(self, number: object) -> None:
-        """Forgets the call that a transaction waits for, if there is one, behind which others may
-        wait."""
+    def _cancel(self, number: object) -> None:
+        """Cancels the request that a transaction waits for, if there is one. Others may wait behind
+        it."""
         if not self._library.nuz_cancel(number).code:
             self._ended.notify_all()
 
     def _cycle(self, number: object, room: int = _CYCLE_ROOM) -> list[int]:
         """The transactions of a cycle of waits that begins with this one; none if it is part of
-        none, or there is no memory to tell."""
+        none, or if there is no memory to find out."""
         txns = (ctypes.c_uint64 * room)()
         count: int = self._library.nuz_cycle_of(number, txns, room).number
         return txns[:count] if count <= room else self._cycle(number, count)
@@ -216,7 +218,7 @@ class Session:
         return self._once(request, lambda answer: self._take_reply(answer, room))
 
     def line_of_user(self, words: bytes) -> Answer:
-        """The same for a line by which transactions may end."""
+        """Carries out a line by which transactions may end."""
         try:
             return self.line(words)
         finally:
@@ -227,13 +229,13 @@ class Session:
         return [self._library.nuz_blocker(index).number for index in range(answer.number)]
 
     def take_names(self, answer: Answer, room: ctypes.Array[ctypes.c_char]) -> None:
-        """Takes the names of a list, and of what kind each is."""
+        """Takes the names of a list, each with its kind."""
         if answer.code:
             return
         if answer.size > len(room):
             room = ctypes.create_string_buffer(answer.size)
             self._library.nuz_bytes(room, answer.size)
-        # Behind each name stands a null byte, and so behind the last one.
+        # A null byte follows each name, even the last one.
         told = ctypes.string_at(room, answer.size).split(b"\0")
         answer.names = [(each[1:], each[0]) for each in told[:-1]]
 
@@ -255,19 +257,19 @@ class Session:
         return text.raw[: told.size] if told.size <= room else self._text(told.size)
 
     def put_off(self, late: Late, may_be_now: bool) -> None:
-        """Makes what a finalizer asks for: at once, unless it came amid a request, or before the
-        next one."""
+        """Makes the requests of a finalizer: at once, or before the next request if the finalizer
+        ran amid one."""
         self._late.append(late)
         if not may_be_now or (self._is_amid and self._is_mine()):
             return
         if any(session._is_mine() for session in _all_sessions()):
-            # (who has a lock must not wait for another)
+            # (a thread that has a lock must not wait for another)
             _elsewhere.append(self)
         else:
             self.make_late()
 
     def make_late(self) -> None:
-        """Makes what was put off, but for what closes files."""
+        """Makes the requests that were put off, except those that close files."""
         with self.lock:
             self._make_late(False)
 
@@ -293,8 +295,8 @@ class Session:
             self.try_once(("nuz_abort", (held.number,)))
 
     def try_once(self, request: Request) -> bool:
-        """Makes a request of which nobody takes an answer. Whether that was of use, or none will
-        be: else it may be asked for again."""
+        """Makes a request whose answer nobody needs. Returns False if it may succeed when it is
+        made again."""
         function, args = request
         with self.lock:
             code: int = getattr(self._library, function)(*args).code
@@ -303,7 +305,7 @@ class Session:
         return code not in _MAY_COME
 
     def renew_after_fork(self) -> None:
-        """In the child this thread is alone: no other holds the lock or waits."""
+        """In the child there is only this thread: no other holds the lock or waits."""
         self._renew_lock()
         for number in [] if self._keeps_waits else list(self._held):
             self._library.nuz_cancel(number)
@@ -323,11 +325,11 @@ class Held(weakref.ref):  # type: ignore[type-arg]
 
 
 class Late:
-    """What finalizers ask for in the name of a transaction, in their order. What has to wait stays,
-    for the transaction to make before it commits.
+    """The requests of finalizers for a transaction, in their order. A blocked one stays, and the
+    transaction makes it before it commits.
 
-    The garbage collector may find a file before its buffer, which has bytes to write. So what is
-    closed is closed behind all that is written, and not before the next request.
+    The garbage collector may find a file before its buffer, which has bytes to write. Therefore
+    files are closed after all writes, and not before the next request.
     """
 
     def __init__(self, session: Session) -> None:
@@ -345,8 +347,8 @@ class Late:
         self._session.put_off(self, False)
 
     def make(self, closes: bool) -> bool:
-        """Makes each at most once, as far as none has to wait. Whether files are left to close,
-        which are not closed here."""
+        """Makes each at most once, up to the first that is blocked. Returns whether files are left
+        that this call may not close."""
         while not self._is_finishing:
             left = self._requests or (self._closes if closes else None)
             if not left or not self._session.try_once(left[0]):
@@ -355,7 +357,7 @@ class Late:
         return bool(self._closes) and not closes
 
     def finish(self, timeout: float | None) -> None:
-        """Makes all of them, and raises what stood in the way of one."""
+        """Makes all of them, and raises the error of the first that fails."""
         self._is_finishing = True
         try:
             while left := self._requests or self._closes:
@@ -374,25 +376,25 @@ class Late:
 
 
 def time_limit(timeout: float | None) -> float | None:
-    """A time limit, which has to be None or a number from 0 on."""
+    """Returns a time limit, which must be None or a number from 0 on."""
     if timeout is not None and not timeout >= 0:
-        raise ValueError(f"a timeout has to be None or a number from 0 on: {timeout}")
+        raise ValueError(f"a timeout must be None or a number from 0 on: {timeout}")
     return timeout
 
 
 def _end_of(timeout: float | None) -> float | None:
-    """When the time is over that begins now."""
+    """Returns when a time limit that begins now is over."""
     return None if timeout is None else time.monotonic() + timeout
 
 
-#: The trees of this process, and what whoever looks them up holds for no longer than that.
+#: The trees of this process, and the lock that is held only while they are looked up.
 _sessions: weakref.WeakSet[Session] = weakref.WeakSet()
 _registry = threading.RLock()
 
-#: The trees of which something was put off while a thread had the lock of another one.
+#: The trees with requests that were put off because a thread had the lock of another tree.
 _elsewhere: collections.deque[Session] = collections.deque()
 
-#: Those whose locks a fork has.
+#: The trees whose locks a fork holds.
 _locked: list[Session] = []
 
 
@@ -407,7 +409,7 @@ def _all_sessions() -> list[Session]:
 
 
 def _make_late_elsewhere() -> None:
-    """Makes what was put off, once this thread has no lock."""
+    """Makes the requests that were put off, once this thread has no lock."""
     while _elsewhere and not any(session._is_mine() for session in _all_sessions()):
         _elsewhere.popleft().make_late()
 

@@ -1,4 +1,4 @@
-"""What there is to tell of files, directories and symbolic links."""
+"""The status of files, directories and symbolic links."""
 from __future__ import annotations
 
 import os
@@ -12,24 +12,24 @@ if TYPE_CHECKING:
 
 Name = TypeVar("Name", str, bytes)
 
-#: What there is at a path, as a `Touched` names it too.
+#: The names of kinds, which `Touched` uses too.
 _KINDS = {DIR: "dir", FILE: "file", LINK: "link"}
 
 #: The bits of `st_mode` for a kind.
 _FORMATS = {"dir": stat.S_IFDIR, "file": stat.S_IFREG, "link": stat.S_IFLNK}
 
-#: What the text of a name says of it, but for a file.
+#: The text for the kind of a name, except for a file.
 _OF_KIND = {DIR: " of a directory", LINK: " of a symbolic link"}
 
-#: Makes a tuple of names from its members: by the names it would take twice as long.
+#: Makes a named tuple from its members. With keywords it would take twice as long.
 _made = tuple.__new__
 
 
 class Info(NamedTuple):
     """The status of a file, directory or symbolic link.
 
-    It has the fields of `os.stat_result` for what a tree holds: no `st_dev`, and no time but that
-    of a file's bytes. `is_dir`, `is_file` and `is_symlink` are methods, as those of `pathlib.Path`
+    It has the fields of `os.stat_result` that a tree has: no `st_dev`, and no time except that of a
+    file's bytes. `is_dir`, `is_file` and `is_symlink` are methods, as those of `pathlib.Path`
     and `os.DirEntry` are.
     """
 
@@ -98,7 +98,7 @@ class Info(NamedTuple):
 
 
 def info_of(answer: Answer) -> Info:
-    """What an answer tells of what a path leads to."""
+    """Returns the status in an answer."""
     _, kind, _, number, links, size, mode, owner, group, has_time, seconds, rest, _ = answer
     time_ns = seconds * 1_000_000_000 + rest if has_time else None
     return _made(Info, (_KINDS[kind], number, links, size, mode, owner, group, time_ns))
@@ -122,15 +122,15 @@ class Entry(Generic[Name]):
         return self.path
 
     def is_dir(self, *, follow_symlinks: bool = True) -> bool:
-        """Whether it was a directory when the names were listed, or a symbolic link that leads to
-        one now, where that is followed."""
+        """Whether it was a directory when the names were listed, or, if symbolic links are
+        followed, a symbolic link that leads to one now."""
         if self.is_symlink() and follow_symlinks:
             return self._calls.isdir(self.path)
         return self._kind == DIR
 
     def is_file(self, *, follow_symlinks: bool = True) -> bool:
-        """Whether it was a file when the names were listed, or a symbolic link that leads to one
-        now, where that is followed."""
+        """Whether it was a file when the names were listed, or, if symbolic links are followed, a
+        symbolic link that leads to one now."""
         if self.is_symlink() and follow_symlinks:
             return self._calls.isfile(self.path)
         return self._kind == FILE
@@ -140,5 +140,5 @@ class Entry(Generic[Name]):
         return self._kind == LINK
 
     def stat(self, *, follow_symlinks: bool = True) -> Info:
-        """What it leads to now. Raises what `Transaction.stat` raises."""
+        """Returns the status of what it leads to now. Raises what `Transaction.stat` raises."""
         return self._calls.stat(self.path, follow_symlinks=follow_symlinks)

@@ -95,8 +95,8 @@ class Transaction(Whole):
         """Begins a step: a transaction inside this one. A commit is refused while a step is live.
 
         Args:
-            timeout: How many seconds its calls wait for others to end; with None, as long as they
-                have to. By default, they wait as those of this transaction do.
+            timeout: How many seconds its calls wait for others to end; with None, without a limit.
+                By default, they wait as those of this transaction do.
 
         Raises:
             Refused: The transaction has ended, or is too deep, or too many have begun.
@@ -114,7 +114,7 @@ class Transaction(Whole):
         Raises:
             ValueError: One of its files is open, so the data in its buffer would be lost.
             Refused: A step of it is live, or it has ended.
-            Waits: A file that nobody has any more has to wait. Commit again.
+            Waits: The close of a file that nobody has any more is blocked. Commit again.
         """
         for held in list(self._files.values()):
             file = held()
@@ -160,7 +160,7 @@ class Transaction(Whole):
 
         Args:
             target: The target; without one, each file and symbolic link that it has written.
-            top: What comes before each path of the tree, such as the directory that was copied in.
+            top: A prefix of each path of the tree, such as the directory that was copied in.
 
         Raises:
             ValueError: A name has no form that both make and Ninja read, like one with a line feed.

@@ -19,13 +19,13 @@ class Tree:
     Args:
         moss: Whether a call also waits for a transaction around it that holds a conflicting lock
             for a call of its own.
-        limits: What it allows, even through checkpoints. Without them each limit is the greatest,
+        limits: Its limits, which checkpoints do not change. By default each limit is the greatest,
             and only lack of memory ends a job.
         timeout: How many seconds a call waits for transactions of other threads to end; with None,
-            as long as it has to. Then it is forgotten. A call that would wait forever raises
-            `Deadlock` at once. With 0 it does not wait, unless its transaction has another timeout:
-            `Waits` is raised at once, and the call is kept, so that reports list it, until the
-            transaction makes another, or cancels it by `cancel_wait`.
+            without a limit. Then it is cancelled. A call that would wait forever raises `Deadlock`
+            at once. With 0 it does not wait, unless its transaction has another timeout: `Waits` is
+            raised at once, and the call is kept, so that reports list it, until the transaction
+            makes another, or cancels it by `cancel_wait`.
         fair: Whether calls wait in turn: a call that no lock blocks also waits for each older
             waiting call that conflicts with it, so one reader after another can't pass a writer. It
             never waits in turn for a transaction above or below its own, or for one that waits for
@@ -65,8 +65,8 @@ class Tree:
         """Begins a transaction.
 
         Args:
-            timeout: How many seconds its calls wait for others to end; with None, as long as they
-                have to. By default, as long as the tree says.
+            timeout: How many seconds its calls wait for others to end; with None, without a limit.
+                By default, the timeout of the tree.
 
         Raises:
             Refused: The limit on transactions since the last checkpoint is reached.
@@ -95,10 +95,10 @@ class Tree:
 
     def request(self, line: str) -> str:
         """Carries out one line of a script without waiting, and returns the text of the reply. The
-        line may also ask for a report, such as `tree`, `locks` or `waits`.
+        line may also be a report, such as `tree`, `locks` or `waits`.
 
         Raises:
-            ValueError: It is no line of a script.
+            ValueError: It is not a line of a script.
         """
         answer = self.session.line_of_user(os.fsencode(line))
         if answer.code == _library.BAD:

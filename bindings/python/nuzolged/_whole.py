@@ -16,10 +16,10 @@ from ._errors import AnyPath, os_error
 from ._path import Path
 from ._told import Entry, Info
 
-#: How many symbolic links one path leads through at most.
+#: The most symbolic links through which one path leads.
 _MOST_FOLLOWED = 40
 
-#: What makes a part of a pattern one that other names fit.
+#: The characters by which a part of a pattern matches other names.
 _MAGIC = frozenset("*?[")
 
 
@@ -132,8 +132,8 @@ class Whole(Calls):
         with `followlinks`, and then enters one that leads back up again and again.
 
         Raises:
-            OSError: A directory can not be listed, as where there is none at `top`, which that of
-                `os` passes over.
+            OSError: A directory can not be listed, for example if there is none at `top`; `os.walk`
+                passes over that.
         """
         here = os.fsdecode(top)
         folders: list[str] = []
@@ -261,8 +261,8 @@ class Whole(Calls):
                 then replaced.
 
         Raises:
-            OSError: EINVAL where the copy would be below the directory.
-            FileExistsError: The copy is there already.
+            OSError: EINVAL if the copy would be below the directory.
+            FileExistsError: The copy exists already.
         """
         source, target = os.fsdecode(old), os.fsdecode(new)
         if _below(self.realpath(target)).startswith(_below(self.realpath(source))):

@@ -1,10 +1,10 @@
-"""fsspec: a file system over a transaction. `with fs.transaction:` is a step, which takes back all
-that was done if it is left by an exception: `mkdir`, `mv` and `rm` too.
+"""fsspec: a file system over a transaction. `with fs.transaction:` is a step. If an exception
+leaves it, the step undoes everything, even `mkdir`, `mv` and `rm`.
 
     fs = fsspec.filesystem("nuzolged", transaction=job)
     fsspec.open("nuzolged:///out/log", "wb", transaction=job)
 
-Without a transaction each is a new tree, which nobody else has.
+Without a transaction, each file system has a new tree of its own.
 """
 from __future__ import annotations
 
@@ -33,14 +33,14 @@ class Step(FsspecTransaction):  # type: ignore[misc]
 
 
 class Own(Transaction):
-    """The transaction of a file system that was given none. Nobody was to commit it."""
+    """The transaction of a file system that was given none. Nobody is expected to commit it."""
 
     def _warn(self) -> None:
         pass
 
 
 class Reader(io.BufferedReader):
-    """A file that is read, and tells its size, by which fsspec finds the end."""
+    """A file that is read, and has its size, by which fsspec finds the end."""
 
     @property
     def size(self) -> int:
@@ -51,7 +51,7 @@ class Reader(io.BufferedReader):
 
 
 class NuzolgedFileSystem(AbstractFileSystem):  # type: ignore[misc]
-    """The file system of a transaction; of one of a new tree where none is given."""
+    """The file system of a transaction; of a transaction of a new tree, if none is given."""
 
     protocol = "nuzolged"
     root_marker = "/"
@@ -106,8 +106,8 @@ class NuzolgedFileSystem(AbstractFileSystem):  # type: ignore[misc]
         return {**told, "uid": info.owner, "gid": info.group, "mtime": info.st_mtime}
 
     def info(self, path: str, **_: Any) -> dict[str, Any]:
-        """What there is to tell of a path, of a last symbolic link itself: so what goes through
-        directories, as `walk`, `rm` and `copy`, never leaves them by one."""
+        """Returns the status of a path. A last symbolic link is not followed, so that `walk`, `rm`
+        and `copy` never leave a directory through one."""
         path = self._strip_protocol(path)
         told = self._told(path, self.at.lstat(path))
         return {**told, "destination": self.at.readlink(path)} if told["islink"] else told
@@ -163,7 +163,7 @@ class NuzolgedFileSystem(AbstractFileSystem):  # type: ignore[misc]
             self.at.copyfile(old, new, follow_symlinks=False)
 
     def touch(self, path: str, truncate: bool = True, **_: Any) -> None:
-        """Makes an empty file. One that is there is emptied, or else gets the time of now."""
+        """Makes an empty file. An existing one is emptied, or else gets the present time."""
         path = self._strip_protocol(path)
         if not truncate and self.at.exists(path):
             self.at.utime(path)

@@ -1,5 +1,5 @@
-"""Runs the tests of this folder, or of those files of it that fit a pattern. What is skipped is
-told, with how many tests that are. The last line is 'N passed, M failed'."""
+"""Runs the tests of this folder, or of those files of it that fit a pattern. It says what is
+skipped, with the number of tests. The last line is 'N passed, M failed'."""
 import collections
 import sys
 import unittest

@@ -143,7 +143,7 @@ impl<R: Reach> Transaction<R> {
         match copy(self.number(), &how, failure.as_mut_ptr()) {
             0 => Ok(()),
             sys::WAITS => Err(asked.last.unwrap_or(Error::Waits(Vec::new()))),
-            // SAFETY: a copy that answers another code than 0 has filled it in.
+            // SAFETY: a copy that returns another code than 0 has filled it in.
             code => Err(error_of(code, unsafe { failure.assume_init_ref() })),
         }
     }
@@ -190,7 +190,7 @@ fn blockers(handle: &mut Handle) -> Vec<u64> {
         .collect()
 }
 
-/// The error of a copy, about the path of the side that told it.
+/// Returns the error of a copy, with the path of the side on which it occurred.
 fn error_of(code: u32, failure: &raw::nuz_copy_failure) -> Error {
     const EFBIG: u32 = 27;
     let is_of_disk = failure.on_disk || code == EFBIG;
@@ -199,7 +199,7 @@ fn error_of(code: u32, failure: &raw::nuz_copy_failure) -> Error {
     } else {
         &failure.path
     };
-    // SAFETY: a null byte stands behind each of them.
+    // SAFETY: each of them ends with a null byte.
     let path = unsafe { CStr::from_ptr(path.as_ptr()) };
     Error::of(code).about(&[Path::new(OsStr::from_bytes(path.to_bytes()))])
 }

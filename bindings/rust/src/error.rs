@@ -1,10 +1,10 @@
-//! Why a request was not carried out.
+//! The reasons why a request was not carried out.
 
 use crate::sys;
 use std::path::{Path, PathBuf};
 use std::{error, fmt, io};
 
-/// Why a request is refused. Nothing has changed.
+/// The reason why a request is refused. Nothing has changed.
 #[derive(Clone, Copy, Debug, PartialEq, Eq, Hash)]
 #[non_exhaustive]
 pub enum Refusal {
@@ -59,14 +59,14 @@ impl fmt::Display for Refusal {
     fn fmt(&self, f: &mut fmt::Formatter<'_>) -> fmt::Result {
         f.write_str(match self {
             Refusal::Other(code) => return write!(f, "the request is refused as {code}"),
-            Refusal::Memory => "there is no memory",
+            Refusal::Memory => "there is not enough memory",
             Refusal::NoTxn => "there is no such transaction",
             Refusal::Ended => "the transaction has ended",
             Refusal::ChildLive => "the transaction has a live step",
             Refusal::NothingToUndo => "there is no call to undo",
             Refusal::SubSince => "a step has committed since the last call",
-            Refusal::Full => "all transactions or calls are used up",
-            Refusal::Deep => "the transaction is too deep",
+            Refusal::Full => "the limit on transactions or calls is reached",
+            Refusal::Deep => "the transaction is at the greatest depth",
             Refusal::Live => "a transaction is live",
             Refusal::NoAsk => "the transaction waits for no call",
             Refusal::BadLimits => "a limit is above the greatest",
@@ -74,7 +74,7 @@ impl fmt::Display for Refusal {
     }
 }
 
-/// Why a request was not carried out.
+/// The reason why a request was not carried out.
 #[derive(Clone, Debug, PartialEq, Eq)]
 #[non_exhaustive]
 pub enum Error {
@@ -90,7 +90,7 @@ pub enum Error {
     /// the call again.
     Waits(Vec<u64>),
     /// The call would wait forever: each of these transactions waits for the next one, and the last
-    /// waits for the first, which made the call. The call is forgotten. Drop that transaction, or
+    /// waits for the first, which made the call. The call is cancelled. Drop that transaction, or
     /// let it do something else; the others then continue.
     Deadlock(Vec<u64>),
     /// The request is refused, and nothing has changed.
@@ -102,7 +102,7 @@ pub enum Error {
     NotUtf8,
 }
 
-/// What this crate returns.
+/// The results of this crate.
 pub type Result<T> = std::result::Result<T, Error>;
 
 impl Error {
@@ -178,7 +178,7 @@ impl fmt::Display for Error {
             Error::Deadlock(cycle) => write!(f, "transactions {cycle:?} wait for each other"),
             Error::Refused(refusal) => refusal.fmt(f),
             Error::Invalid => f.write_str("an argument is not valid"),
-            Error::NotUtf8 => f.write_str("the file is not of UTF-8"),
+            Error::NotUtf8 => f.write_str("the file is not valid UTF-8"),
         }
     }
 }

@@ -10,8 +10,8 @@ use std::os::unix::fs::FileExt;
 use std::path::{Path, PathBuf};
 use std::sync::Arc;
 
-/// How a file is opened, as by `std::fs::OpenOptions`. What that type refuses is invalid here too.
-/// However, a directory can't be opened, not even for reading.
+/// How a file is opened, as by `std::fs::OpenOptions`. Options that that type refuses are invalid
+/// here too. However, a directory can't be opened, not even for reading.
 #[derive(Clone, Copy, Debug, Default, PartialEq, Eq)]
 pub struct OpenOptions {
     read: bool,
@@ -229,8 +229,8 @@ impl<H: Holder> OpenFile<H> {
         Ok(got.number as usize)
     }
 
-    /// Closes the file. If that has to wait too long, or lacks memory, the commit of its
-    /// transaction closes it.
+    /// Closes the file. If that is blocked too long, or lacks memory, the commit of its transaction
+    /// closes it.
     ///
     /// # Errors
     ///

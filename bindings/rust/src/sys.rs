@@ -1,9 +1,8 @@
-//! The functions of nuzolged.h and of what stands over it, whose headers say what each takes and
-//! answers.
+//! The functions of nuzolged.h and of the C files on top of it. Their headers describe arguments
+//! and answers.
 //!
-//! What the header has its caller owe is seen to by types: a handle has a tree of its own, whoever
-//! calls has it alone (`&mut`), a slice is a pointer with its length, and a buffer is borrowed by
-//! nobody else.
+//! Types ensure what the header requires of its caller: a handle has a tree of its own, only the
+//! caller has it (`&mut`), a slice is a pointer with its length, and nobody else borrows a buffer.
 
 use nuzolged_sys as raw;
 use std::collections::hash_map::RandomState;
@@ -23,7 +22,7 @@ pub use raw::{
     NUZ_TOUCHED_WRITTEN as TOUCHED_WRITTEN, NUZ_WAITS as WAITS,
 };
 
-/// A handle: the tree that it owns. It is closed where it is dropped.
+/// A handle: the tree that it owns. It is closed when it is dropped.
 #[derive(Debug)]
 pub struct Handle {
     at: NonNull<raw::nuz_tree>,
@@ -36,7 +35,7 @@ unsafe impl Send for Handle {}
 const NO_MODE: u32 = 0o10000;
 
 impl Handle {
-    /// Opens a tree, with random keys of its own, or answers the code of what stood in the way.
+    /// Opens a tree, with random keys of its own, or returns the code of the reason why not.
     pub fn open(options: u32, limits: &Limits) -> Result<Handle, u32> {
         let mut at = ptr::null_mut();
         // SAFETY: see the head of this module.
@@ -64,17 +63,18 @@ impl Handle {
 }
 
 impl Handle {
-    /// Tells each path that a transaction has touched, with how, and the kind of what is there.
+    /// Reports each path that a transaction has touched: how, and the kind of what is there.
     pub fn touched<F: FnMut(&[u8], u32, u32)>(&mut self, txn: u64, mut each: F) -> Answer {
         let mut answer = Answer::default();
         let context = (&mut each as *mut F).cast();
-        // SAFETY: see the head of this module. (What is called back has the closure alone.)
+        // SAFETY: see the head of this module. (Only the function that is called back has the
+        // closure.)
         unsafe { raw::nuz_touched(self.at.as_ptr(), txn, tell::<F>, context, &mut answer) };
         answer
     }
 }
 
-/// Tells one path.
+/// Reports one path.
 ///
 /// # Safety
 ///
@@ -91,13 +91,13 @@ unsafe extern "C" fn tell<F: FnMut(&[u8], u32, u32)>(
 
 impl Drop for Handle {
     fn drop(&mut self) {
-        // SAFETY: see the head of this module. Nobody has the tree behind this.
+        // SAFETY: see the head of this module. Nobody has the tree after this.
         unsafe { raw::nuz_tree_close(self.at.as_ptr()) }
     }
 }
 
-/// Functions of the library that answer an `Answer`: each as it is called here, and as it is called
-/// in C, between the tree and the answer.
+/// Functions of the library that fill in an `Answer`: each as it is called here, and as it is
+/// called in C, between the tree and the answer.
 macro_rules! functions {
     ($($name:ident($($arg:ident: $of:ty),*) = $call:ident($($value:expr),*);)*) => {
         impl Handle {

@@ -42,8 +42,8 @@ impl Touched {
 impl<R: Reach> Transaction<R> {
     /// Returns each path that the transaction has looked up (even in vain), read, listed or written
     /// so far. The paths come from its locks, and include those of committed steps. A name that has
-    /// been renamed or removed since is listed where it was, if its directory still exists. This
-    /// takes time and memory for the whole tree.
+    /// been renamed or removed since is listed at its old place, if its directory still exists.
+    /// This takes time and memory for the whole tree.
     ///
     /// ```
     /// # use nuzolged::{Result, Tree};

@@ -268,10 +268,10 @@ impl<R: Reach> Transaction<R> {
             .end(|handle| answered(handle, |handle| ask(handle, self.number)))
     }
 
-    /// Closes a descriptor that nobody has any more, without waiting. If it would have to wait, a
-    /// commit closes it.
+    /// Closes a descriptor that nobody has any more, without waiting. If it is blocked, a commit
+    /// closes it.
     pub(crate) fn leave(&self, fd: u64) {
-        // (who waits asks again, since a thread that shares this transaction may have lost its ask)
+        // (waiters ask again, since a thread that shares this transaction may have lost its ask)
         let closed = self.tree.end(|handle| {
             let closed = answered(handle, |handle| handle.close_file(self.number, fd));
             if let Err(Error::Waits(_)) = closed {
@@ -313,7 +313,7 @@ impl<R: Reach> Transaction<R> {
     /// # Errors
     ///
     /// Refused as `ChildLive` if a step is live, or as `Ended` if a transaction around this one has
-    /// been aborted; `Waits` or `Deadlock` if a file was dropped whose close has to wait.
+    /// been aborted; `Waits` or `Deadlock` if a file was dropped whose close is blocked.
     pub fn commit(self) -> Result<()> {
         self.try_commit().map_err(|(_, error)| error)
     }
@@ -559,7 +559,7 @@ impl<R: Reach> Transaction<R> {
 impl<R: Reach> Drop for Transaction<R> {
     fn drop(&mut self) {
         if self.is_live {
-            // An abort takes no memory. It is refused only where one around it has ended it.
+            // An abort takes no memory. It is refused only if one around it has ended it.
             let _ = self.end(Handle::abort);
         }
     }

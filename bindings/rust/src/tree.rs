@@ -116,9 +116,9 @@ impl Tree {
 
 /// A tree that threads share: each clone is of the same tree.
 ///
-/// A call that has to wait is made again whenever a transaction has ended, and some times a second
-/// (a call of a transaction around it may unblock it), until a time limit is over. Then the call is
-/// forgotten, and returns [`Error::Waits`]. If it would wait forever, since transactions wait for
+/// A blocked call is made again whenever a transaction has ended, and several times a second (a
+/// call of a transaction around it may unblock it), until a time limit is over. Then the call is
+/// cancelled, and returns [`Error::Waits`]. If it would wait forever, since transactions wait for
 /// each other, it returns [`Error::Deadlock`] at once: drop the transaction that gets this, and
 /// begin again.
 ///
@@ -210,12 +210,12 @@ impl Shared {
     }
 
     /// Carries out one line of a script without waiting, and returns the text of the reply. The
-    /// line may also ask for a report, such as `tree`, `locks` or `waits`. A line may end a
-    /// transaction of which somebody has a [`Transaction`]: its requests are then refused.
+    /// line may also be a report, such as `tree`, `locks` or `waits`. A line may end a transaction
+    /// of which somebody has a [`Transaction`]: its requests are then refused.
     ///
     /// # Errors
     ///
-    /// `Invalid` if it is no line of a script.
+    /// `Invalid` if it is not a line of a script.
     pub fn request(&self, line: &str) -> Result<String> {
         self.end(|handle| reply_to(handle, line))
     }
@@ -258,8 +258,8 @@ pub(crate) mod sealed {
     use super::{Handle, Result};
 
     pub trait Reach {
-        /// Makes a request of a transaction. Where others may end meanwhile, one that waits is
-        /// made again.
+        /// Makes a request of a transaction. If others may end meanwhile, a blocked one is made
+        /// again.
         fn reach<T>(&self, txn: u64, request: impl FnMut(&mut Handle) -> Result<T>) -> Result<T>;
 
         /// Makes a request once.

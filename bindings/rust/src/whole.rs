@@ -12,10 +12,10 @@ use std::path::{Component, Path, PathBuf};
 /// How many bytes of a whole file are read or written at once: the library makes a copy of them.
 const PIECE: usize = 1 << 26;
 
-/// How many symbolic links one path leads through at most.
+/// The most symbolic links through which one path leads.
 const MOST_FOLLOWED: usize = 40;
 
-/// A file, a directory or a symbolic link that a [`Walk`] has come to.
+/// A file, a directory or a symbolic link that a [`Walk`] has reached.
 #[derive(Clone, Debug, PartialEq, Eq)]
 #[non_exhaustive]
 pub struct Place {
@@ -218,12 +218,12 @@ impl<R: Reach> Transaction<R> {
     }
 
     /// Goes through everything below a directory: each directory before its contents, and names in
-    /// the order of their bytes. The walk lists a directory when it comes to it. It reports
+    /// the order of their bytes. The walk lists a directory when it reaches it. It reports
     /// symbolic links, and does not follow them.
     ///
     /// # Errors
     ///
-    /// Those of [`read_dir`](Transaction::read_dir), here and for each directory that it comes to.
+    /// Those of [`read_dir`](Transaction::read_dir), here and for each directory that it reaches.
     pub fn walk(&self, path: impl AsRef<Path>) -> Result<Walk<'_, R>> {
         let (transaction, left) = (self, Vec::new());
         let mut walk = Walk { transaction, left };

@@ -1,4 +1,4 @@
--- What a script does that is played first.
+-- A script that is played first, and its effect.
 use Rattle.std.specs.Prelude.{◌≡◌, ◌⊎◌, ℕ, suc, true, false, List, [], ◌∷◌, ◌++◌, length, cond, Option, None, Some}
 use Rattle.ft_moss.specs.declared.rule.Rule.{Rule}
 use Rattle.ft_core.specs.declared.request.Answer.{Answer}
@@ -13,15 +13,15 @@ use Rattle.ft_words.specs.Spelling.{lines_of}
 use Rattle.ft_after.specs.declared.fault.AfterFault.{AfterFault}
 use Rattle.ft_after.specs.declared.fault.AfterFault.TheVariants.{Memory, BadLimits, Script}
 
--- A line does what it asks for. A report changes nothing.
+-- A line does what it requests. A report changes nothing.
 abbrev pub GoesWell : State → Line → State → Type 0
 GoesWell old line.Silent new = new ≡ old
 GoesWell old line.Bad new = ⊥
 GoesWell old (line.Request request) new = (answer : Answer) × IsMet old request answer new × (is_well answer ≡ true)
 GoesWell old (line.Report report) new = new ≡ old
 
--- A line asks for nothing, or its request is refused, except for being out of memory, fails or
--- waits.
+-- A line is not a valid request, or its request is refused, except for being out of memory, fails
+-- or waits.
 abbrev pub GoesBadly : State → Line → State → Type 0
 GoesBadly old line.Silent new = ⊥
 GoesBadly old line.Bad new = new ≡ old
@@ -33,28 +33,28 @@ abbrev pub PlaysWell : State → List (List ℕ) → State → Type 0
 PlaysWell old [] new = new ≡ old
 PlaysWell old (bytes ∷ lines) new = (middle : State) × GoesWell old (meaning_of bytes) middle × PlaysWell middle lines new
 
--- They were played, no transaction was live behind the last, and the tree as it then stood is the
--- new beginning.
+-- They were played, no transaction was live after the last, and the tree at that moment is the new
+-- base.
 abbrev pub IsPlayedFirst : State → List (List ℕ) → State → Type 0
 IsPlayedFirst old lines new = (played : State) × PlaysWell old lines played × (has_live played ≡ false) × (new ≡ after_checkpoint played)
 
--- The line of this number, from 1, is the first that does not do what it asks for.
+-- The line of this number, from 1, is the first that does not do what it requests.
 abbrev pub StopsAtLine : ℕ → State → List (List ℕ) → State → Type 0
 StopsAtLine number old lines new =
     (done : List (List ℕ)) × (bytes : List ℕ) × (rest : List (List ℕ)) × (middle : State) × (lines ≡ done ++ bytes ∷ rest) × (number ≡ suc (length done))
     × PlaysWell old done middle × GoesBadly middle (meaning_of bytes) new
 
--- All lines did what they ask for, as many as this number, and a transaction is live behind the
+-- All lines did what they request, as many as this number, and a transaction is live after the
 -- last.
 abbrev pub LeavesLive : ℕ → State → List (List ℕ) → State → Type 0
 LeavesLive number old lines new = (number ≡ length lines) × PlaysWell old lines new × (has_live new ≡ true)
 
--- Some lines did what they ask for, and then there was no memory: for the next line, for its
+-- Some lines did what they request, and then there was no memory: for the next line, for its
 -- request, or for the checkpoint.
 abbrev pub WantsMemory : State → List (List ℕ) → State → Type 0
 WantsMemory old lines new = (done : List (List ℕ)) × (rest : List (List ℕ)) × (lines ≡ done ++ rest) × PlaysWell old done new
 
--- What came where they were not played.
+-- The fault if they were not played.
 abbrev pub StopsFirst : AfterFault → State → List (List ℕ) → State → Type 0
 StopsFirst Memory old lines new = WantsMemory old lines new
 StopsFirst BadLimits old lines new = ⊥

@@ -5,14 +5,14 @@ use thiserror::Error;
 /// Why a script was not played first.
 #[derive(Clone, Copy, Debug, PartialEq, Eq, Error)]
 pub enum AfterFault {
-    /// There was no memory, for a line or for what it asks for.
+    /// There was no memory for a line, or for what it requests.
     #[error("Memory")]
     Memory,
     /// The limits are greater than a core may have.
     #[error("BadLimits")]
     BadLimits,
-    /// The line of this number, from 1, asks for nothing, or its request is refused, fails or
-    /// waits; or a transaction is live behind it, the last.
+    /// The line of this number, from 1, is not a valid request, or its request is refused, fails or
+    /// waits; or the line is the last, and a transaction is live after it.
     #[error("Script {0}")]
     Script(u64),
 }

@@ -1,4 +1,4 @@
-//! A script that is played first: each of its lines has to do what it asks for.
+//! A script that is played first: each of its lines must do what it requests.
 #![tactic(auto)]
 
 mod fault;

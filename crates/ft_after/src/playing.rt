@@ -15,8 +15,8 @@ use ft_strict::{is_well, try_carry_out};
 use ft_words::Lines;
 use std::alloc::Global;
 
-/// A core that grants calls by this rule and has these limits: a new one, or if there is a script,
-/// one on which that was played first. It is seeded before, as `Core::seed` says.
+/// Returns a core that grants calls by this rule and has these limits: a new one, or if there is a
+/// script, one on which that was played first. It is seeded before, as `Core::seed` describes.
 ///
 /// Limits that a core can't have are refused.
 pub fn core_after(
@@ -59,12 +59,12 @@ fn new_core(alloc: Global, rule: Rule, limits: Limits, seed: u64) -> Result<Core
     }
 }
 
-/// Plays a script on a core without writing replies, and then makes the tree as it stands the new
-/// beginning, as a `checkpoint` does.
+/// Plays a script on a core without writing replies, and then makes the present tree the base, as a
+/// `checkpoint` does.
 ///
-/// Each line has to do what it asks for: a line that asks for nothing, and a request that is
-/// refused, fails or waits, end it with their number, and so does a transaction that is left live.
-/// Where there is no memory, also for a request, that is the fault. Reports are left out.
+/// Each line must do what it requests. A line that is not a valid request, and a request that is
+/// refused, fails or waits, end the run with their number. A transaction that is left live ends it
+/// too. If there is not enough memory, even for a request, that is the fault. Reports are left out.
 pub fn play_first(alloc: Global, script: &[u8], core: &mut Core) -> Result<(), AfterFault>
     ensures ok { OnOk result (IsPlayedFirst core.old.state (lines_of script.now) core.new.state) }
     ensures fault { IfErr result (λ fault. StopsFirst fault core.old.state (lines_of script.now) core.new.state) }
@@ -77,7 +77,7 @@ pub fn play_first(alloc: Global, script: &[u8], core: &mut Core) -> Result<(), A
     }
 }
 
-// Plays the lines of a script, and tells how many there are.
+// Plays the lines of a script, and returns how many there are.
 fn play_all(alloc: Global, script: &[u8], core: &mut Core) -> Result<u64, AfterFault>
     ensures ok { OnOk result (PlaysWell core.old.state (lines_of script.now) core.new.state) }
     ensures count { IfOk result (λ count. count ≡ length (lines_of script.now)) }
@@ -95,7 +95,7 @@ fn play_all(alloc: Global, script: &[u8], core: &mut Core) -> Result<u64, AfterF
     Ok(number)
 }
 
-// Plays a line, and answers whether it did what it asks for.
+// Plays a line, and returns whether it did what it requests.
 fn play_line(alloc: Global, line: &[u8], core: &mut Core) -> Result<bool, AfterFault>
     ensures well { IfOk result (λ well. well ≡ true → GoesWell core.old.state (meaning_of line.now) core.new.state) }
     ensures badly { IfOk result (λ well. well ≡ false → GoesBadly core.old.state (meaning_of line.now) core.new.state) }
@@ -108,7 +108,7 @@ fn play_line(alloc: Global, line: &[u8], core: &mut Core) -> Result<bool, AfterF
     }
 }
 
-// Carries out a request, and answers whether it was granted and did not fail. Its only error is
+// Carries out a request, and returns whether it was granted and did not fail. Its only error is
 // that there was no memory for it.
 fn does_well(core: &mut Core, request: Request) -> Result<bool, Memory>
     ensures well { IfOk result (λ well. well ≡ true → GoesWell core.old.state (Line.Request request) core.new.state) }

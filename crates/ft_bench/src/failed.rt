@@ -10,7 +10,7 @@ use std::alloc::AllocError;
 /// Why a measure was given up. It owns nothing, so that what hands it on has nothing to drop.
 #[derive(Clone, Copy, Debug, PartialEq, Eq)]
 pub enum Failed {
-    /// The words after the program's name ask for nothing that there is.
+    /// The words after the program's name are not valid.
     Usage,
     /// There was no memory left.
     Memory,
@@ -19,7 +19,7 @@ pub enum Failed {
 }
 
 impl Failed {
-    /// What is told of it.
+    /// The text that reports it.
     pub fn text(self) -> &'static str {
         match self {
             Failed::Usage => "usage: ft_bench WHAT COUNT SIZE\n",
@@ -29,7 +29,7 @@ impl Failed {
     }
 }
 
-/// Fails where something is not as it should be.
+/// Fails if something is not as it should be.
 pub fn check(holds: bool) -> Result<(), Failed>
     ensures { OnOk result (holds ≡ true) }
 {

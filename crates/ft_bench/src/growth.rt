@@ -54,7 +54,7 @@ impl Growth {
         Ok(())
     }
 
-    /// Makes a directory, and those above it where it is the first in them.
+    /// Makes a directory, and those above it if it is the first in them.
     fn add(&mut self, place: Place) -> Result<(), Failed> {
         for level in place.new_levels() {
             let path = place.path(self.alloc, *level)?;
@@ -63,13 +63,13 @@ impl Growth {
         Ok(())
     }
 
-    /// Makes a directory, and says whether it was made.
+    /// Makes a directory, and returns whether it was made.
     fn makes(&mut self, path: FilePath) -> Result<bool, Failed> {
         let call = Call::Mkdir { path, mode: None };
         self.does(&call)
     }
 
-    /// Makes a call, and answers its reply.
+    /// Makes a call, and returns its reply.
     pub fn perform(&mut self, call: &Call) -> Result<Reply, Failed> {
         let stamp = self.next;
         let next = stamp.checked_add(1).ok_or(Failed::Call)?;
@@ -78,7 +78,7 @@ impl Growth {
         Ok(reply)
     }
 
-    /// Makes a call, and says whether it has done what it was asked for.
+    /// Makes a call, and returns whether it has done what it was asked for.
     pub fn does(&mut self, call: &Call) -> Result<bool, Failed> {
         let reply = self.perform(call)?;
         Ok(is_done(&reply))
@@ -90,7 +90,7 @@ impl Growth {
         Ok(accesses.len())
     }
 
-    /// Makes a call on a copy, and takes it back there where that is asked for. Says whether it has
+    /// Makes a call on a copy, and undoes it there if that is asked for. Returns whether it has
     /// done what it was asked for.
     pub fn does_on_copy(&self, call: &Call, is_taken_back: bool) -> Result<bool, Failed> {
         let mut copy = self.tree.copy()?;

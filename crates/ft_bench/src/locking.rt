@@ -10,10 +10,10 @@ use ft_tree::{Cell, EntryRef};
 use std::alloc::Global;
 use std::mem;
 
-/// What is done again and again in a table of locks.
+/// A measure that is repeated in a table of locks.
 #[derive(Clone, Copy, PartialEq, Eq)]
 pub enum Asking {
-    /// Three accesses are made, and nothing is asked: what the others take beside their asks.
+    /// Three accesses are made, and nothing is asked: what the others take besides their asks.
     Accesses,
     /// The blockers of three accesses that nobody has locked, and their grant.
     Alone,
@@ -60,8 +60,8 @@ impl Table {
         self.grant(txn, [Access { cell, mode }].as_slice())
     }
 
-    /// Makes the accesses of a file with this number, and asks for them where that is measured.
-    /// Says whether nobody was in the way.
+    /// Makes the accesses of a file with this number, and asks for them if that is measured.
+    /// Returns whether nobody blocked it.
     fn take(
         &mut self,
         alloc: Global,
@@ -76,7 +76,7 @@ impl Table {
         self.ask(asker, accesses.as_slice())
     }
 
-    /// Asks who is in the way, and grants what is asked for where nobody is.
+    /// Asks for the blockers, and grants the accesses if there are none.
     fn ask(&mut self, txn: TxnId, accesses: &[Access]) -> Result<bool, Failed> {
         let blockers = self
             .locks
@@ -136,7 +136,7 @@ fn fill(alloc: Global, table: &mut Table, asking: Asking, size: u64) -> Result<(
     Ok(())
 }
 
-/// Asks as often as `count` says, in a table of so many locks: how often nobody was in the way.
+/// Asks `count` times, in a table of so many locks, and returns how often nobody blocked it.
 fn run_in(
     alloc: Global,
     table: &mut Table,

@@ -1,4 +1,4 @@
-// What is measured of calls on a tree.
+// Measures of calls on a tree.
 use crate::failed::Failed;
 use crate::growth::Growth;
 use crate::paths::{Level, Place, path};
@@ -8,10 +8,10 @@ use ft_tree::AccessMode;
 use std::alloc::Global;
 use std::mem;
 
-/// What is done again and again.
+/// A measure that is repeated.
 #[derive(Clone, Copy, PartialEq, Eq)]
 pub enum Measure {
-    /// The path of a call is made, and no call: what the others take beside their calls.
+    /// The path of a call is made, and no call: what the others take besides their calls.
     Text,
     /// A directory is looked at by `stat`, and nothing is changed.
     Stat,
@@ -25,7 +25,7 @@ pub enum Measure {
     Lseek,
     /// The tree is copied, and a directory made in the copy.
     Copy,
-    /// The same, and it is taken back there.
+    /// The same, and it is undone there.
     Revert,
 }
 
@@ -45,7 +45,7 @@ impl Measure {
         }
     }
 
-    /// The path of one of the directories, or of a new one beside it.
+    /// The path of one of the directories, or of a new one alongside it.
     fn path(self, alloc: Global, place: Place, index: u64) -> Result<FilePath, Failed> {
         let level = match self {
             Measure::Stat | Measure::Chmod | Measure::Refused => Level::Third,
@@ -54,7 +54,7 @@ impl Measure {
         place.path(alloc, level)
     }
 
-    /// Does it once with a path, and answers whether that went well.
+    /// Does it once with a path, and returns whether that went well.
     fn take_at(self, growth: &mut Growth, fd: u64, path: FilePath) -> Result<bool, Failed> {
         let call = match self {
             Measure::Stat => Call::Stat { path },
@@ -77,7 +77,7 @@ impl Measure {
     }
 }
 
-/// Sets the offset of an open file to 1, and answers it.
+/// Sets the offset of an open file to 1, and returns it.
 fn seek(growth: &mut Growth, fd: u64) -> Result<u64, Failed> {
     let call = Call::Lseek {
         fd,
@@ -87,7 +87,7 @@ fn seek(growth: &mut Growth, fd: u64) -> Result<u64, Failed> {
     number(growth, &call)
 }
 
-/// Makes the file `/f`, and answers its descriptor.
+/// Makes the file `/f`, and returns its descriptor.
 fn open(alloc: Global, growth: &mut Growth) -> Result<u64, Failed> {
     let path = path(alloc, b"/f".as_slice())?;
     let call = Call::Open {
@@ -102,7 +102,7 @@ fn open(alloc: Global, growth: &mut Growth) -> Result<u64, Failed> {
     number(growth, &call)
 }
 
-/// The number that a call answers.
+/// Returns the number in the reply to a call.
 fn number(growth: &mut Growth, call: &Call) -> Result<u64, Failed> {
     match growth.perform(call)? {
         Reply::Number(number) => Ok(number),
@@ -110,8 +110,8 @@ fn number(growth: &mut Growth, call: &Call) -> Result<u64, Failed> {
     }
 }
 
-/// Does a measure as often as `count` says, over a tree of this size, each time at another
-/// directory: how often it went well.
+/// Does a measure `count` times, over a tree of this size, each time at another directory, and
+/// returns how often it went well.
 fn run_on(
     alloc: Global,
     growth: &mut Growth,

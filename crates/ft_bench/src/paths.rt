@@ -3,7 +3,7 @@ use crate::failed::Failed;
 use ft_path::{FilePath, PathFault};
 use std::alloc::Global;
 
-/// Where a directory stands: ten in each of the second level, and a hundred of these in each of the
+/// The place of a directory: ten in each of the second level, and a hundred of these in each of the
 /// first.
 #[derive(Clone, Copy)]
 pub struct Place {
@@ -12,7 +12,7 @@ pub struct Place {
     third: u64,
 }
 
-/// How many components of a path are meant, or a new name beside the directories of the third
+/// How many components of a path are meant, or a new name alongside the directories of the third
 /// level.
 #[derive(Clone, Copy)]
 pub enum Level {
@@ -38,7 +38,7 @@ impl Place {
         Place::of(index.wrapping_mul(7919).checked_rem(size).unwrap_or(0))
     }
 
-    /// From which level on the directory is the first one there, so that those above it have to be
+    /// From which level on the directory is the first one there, so that those above it must be
     /// made too.
     pub fn new_levels(self) -> &'static [Level] {
         match (self.second, self.third) {

@@ -1,4 +1,4 @@
-// What calls take through a core, in transactions.
+// The cost of calls through a core, in transactions.
 use crate::failed::{Failed, check};
 use crate::paths::{Level, Place};
 use ft_calls::Call;
@@ -7,12 +7,12 @@ use ft_path::FilePath;
 use std::alloc::Global;
 use std::mem;
 
-/// What is asked again and again, in a transaction that has made many directories.
+/// A request that is repeated, in a transaction that has made many directories.
 #[derive(Clone, Copy, PartialEq, Eq)]
 pub enum Stage {
-    /// The path of a call is made, and no call: what the others take beside their asks.
+    /// The path of a call is made, and no call: what the others take besides their asks.
     Call,
-    /// A directory is asked for, each time beside another one.
+    /// A directory is asked for, each time alongside another one.
     Ask,
     /// The same, while ten thousand other transactions at the top are live.
     Crowd,
@@ -44,7 +44,7 @@ impl Stage {
         }
     }
 
-    /// The path of its call, beside one of so many directories or of the first one.
+    /// The path of its call, alongside one of so many directories or the first one.
     fn path(self, alloc: Global, index: u64, size: u64) -> Result<FilePath, Failed> {
         match self {
             Stage::Look | Stage::Path => Place::of(0).path(alloc, Level::Third),
@@ -65,7 +65,7 @@ impl Stage {
     }
 }
 
-/// Makes a call that nobody is in the way of.
+/// Makes a call that nobody blocks.
 fn ask(core: &mut Core, txn: TxnId, call: Call) -> Result<(), Failed> {
     let outcome = core.ask(txn, call)?;
     check(matches!(outcome, Outcome::Granted { .. }))
@@ -79,7 +79,7 @@ fn fill(alloc: Global, core: &mut Core, txn: TxnId, size: u64) -> Result<(), Fai
     Ok(())
 }
 
-/// Makes a directory, and those above it where it is the first in them.
+/// Makes a directory, and those above it if it is the first in them.
 fn add(alloc: Global, core: &mut Core, txn: TxnId, place: Place) -> Result<(), Failed> {
     for level in place.new_levels() {
         let path = place.path(alloc, *level)?;
@@ -121,8 +121,7 @@ fn repeat(
     Ok(())
 }
 
-/// Does a stage as often as `count` says, in a transaction of a core that has made directories, as
-/// many as `size`.
+/// Does a stage `count` times, in a transaction of a core that has made `size` directories.
 fn run_in(
     alloc: Global,
     core: &mut Core,

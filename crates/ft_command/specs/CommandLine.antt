@@ -16,52 +16,51 @@ use Rattle.ft_command.specs.declared.choice.AskedPace.{AskedPace}
 use Rattle.ft_command.specs.declared.choice.Choice.{Choice}
 use Rattle.ft_command.specs.declared.choice.Choice.TheVariants.{Play, Dot, Load, Save, Jobs, Help, Usage, Fault}
 
--- the plan of `jobs` has to be named
+-- the plan of `jobs` must be named
 abbrev pub file_rule : Rule
 file_rule = record (new_rule (codes "file")) { required = true; value_names = 1 }
 
--- how often a call asks at most: `--turns N`, from 1 to 1,000,000, and 10,000 where it is not
--- named
+-- how often a call asks at most: `--turns N`, from 1 to 1,000,000, and 10,000 if it is not named
 abbrev pub turns_rule : Rule
 turns_rule = record (new_rule (codes "turns")) { long = Some (codes "turns"); value_names = 1; parser = Some (Unsigned 1 1000000); defaults = codes "10000" ∷ [] }
 
--- how many threads run jobs at most: `--threads N`, from 1 to 4,096, and 64 where it is not named
+-- how many threads run jobs at most: `--threads N`, from 1 to 4,096, and 64 if it is not named
 abbrev pub threads_rule : Rule
 threads_rule = record (new_rule (codes "threads")) { long = Some (codes "threads"); value_names = 1; parser = Some (Unsigned 1 4096); defaults = codes "64" ∷ [] }
 
--- `--quiet`, where it is not to be shown how far it has come
+-- `--quiet`: it is not to be shown how far it has come
 abbrev pub quiet_rule : Rule
 quiet_rule = record (new_rule (codes "quiet")) { long = Some (codes "quiet"); action = Some SetTrue }
 
--- `--moss`, where a lock that an ancestor holds is in the way too
+-- `--moss`: a lock that an ancestor holds blocks too
 abbrev pub moss_rule : Rule
 moss_rule = record (new_rule (codes "moss")) { long = Some (codes "moss"); action = Some SetTrue }
 
--- a directory has to be named
+-- a directory must be named
 abbrev pub dir_rule : Rule
 dir_rule = record (new_rule (codes "dir")) { required = true; value_names = 1 }
 
--- `--skip`, where what can't be loaded is left out
+-- `--skip`: what can't be loaded is left out
 abbrev pub skip_rule : Rule
 skip_rule = record (new_rule (codes "skip")) { long = Some (codes "skip"); action = Some SetTrue }
 
--- `--check`, where that is only listed
+-- `--check`: that is only listed
 abbrev pub check_rule : Rule
 check_rule = record (new_rule (codes "check")) { long = Some (codes "check"); action = Some SetTrue }
 
--- `--set-id`, where modes keep their bits S_ISUID and S_ISGID
+-- `--set-id`: modes keep their bits S_ISUID and S_ISGID
 abbrev pub set_id_rule : Rule
 set_id_rule = record (new_rule (codes "set-id")) { long = Some (codes "set-id"); action = Some SetTrue }
 
--- `--no-owners`, where no owner and no group is set
+-- `--no-owners`: no owner and no group is set
 abbrev pub no_owners_rule : Rule
 no_owners_rule = record (new_rule (codes "no-owners")) { long = Some (codes "no-owners"); action = Some SetTrue }
 
--- `--after FILE`, where a script is played first
+-- `--after FILE`: a script is played first
 abbrev pub after_rule : Rule
 after_rule = record (new_rule (codes "after")) { long = Some (codes "after"); value_names = 1 }
 
--- `--strict`, where each line of a script has to do what it asks for
+-- `--strict`: each line of a script must do what it requests
 abbrev pub strict_rule : Rule
 strict_rule = record (new_rule (codes "strict")) { long = Some (codes "strict"); action = Some SetTrue }
 
@@ -91,7 +90,7 @@ jobs = limited (with_rule (with_rule (with_rule (with_rule (with_rule (with_rule
 abbrev pub HasNoGlobals : Command → Type 0
 HasNoGlobals command = (out-Command command).has_globals ≡ false
 
--- the program `ft_run` needs a subcommand, and has a version; the words begin behind its name
+-- the program `ft_run` needs a subcommand, and has a version; the words begin after its name
 abbrev pub bare : App
 bare =
     let named = new_app (codes "ft_run") in
@@ -113,8 +112,8 @@ program = with_subcommand with_folders jobs.top
 abbrev pub Met : Type 0
 Met = Option (Text × List Row)
 
--- A flag stands where the text that was found for it is `true`, and does not where that is
--- `false`, or nothing was found.
+-- A flag is given if the text that was found for it is `true`, and is not if that is `false`, or
+-- nothing was found.
 abbrev pub IsFlag : Option Text → Bool → Type 0
 IsFlag None flag = flag ≡ false
 IsFlag (Some text) flag = (text ≡ codes "true" → flag ≡ true) × (text ≡ codes "false" → flag ≡ false)
@@ -124,13 +123,13 @@ abbrev pub TellsNumber : Text → List Row → ℕ → Type 0
 TellsNumber name found number = (digits : Text) × (one_of name found ≡ Some digits) × (number ≡ digits_value 10 (without_leading_plus digits))
 
 -- The file and the pace are those that were found (clap's `first_of`), there is at least one turn,
--- and it is quiet where that flag stands.
+-- and it is quiet if that flag is given.
 abbrev pub TellsJobs : List Row → Text → AskedPace → Bool → Type 0
 TellsJobs found file pace quiet =
     (first_of (codes "file") found ≡ Some file) × TellsNumber (codes "turns") found pace.turns × (1 ≤ pace.turns)
     × TellsNumber (codes "threads") found pace.threads × IsFlag (one_of (codes "quiet") found) quiet
 
--- the rule is `Moss` where the flag `--moss` stands, and else `Profile`
+-- the rule is `Moss` if the flag `--moss` is given, and else `Profile`
 abbrev pub TellsRule : List Row → LockRule → Type 0
 TellsRule found rule = IsFlag (one_of (codes "moss") found) (is_strict rule)
 
@@ -142,7 +141,7 @@ TellsAfter found after = after ≡ first_of (codes "after") found
 abbrev pub TellsDir : List Row → Text → Type 0
 TellsDir found dir = first_of (codes "dir") found ≡ Some dir
 
--- The choice where the words name this subcommand: a usage text only where the value of a flag is no
+-- The choice if the words name this subcommand: a usage text only if the value of a flag is no
 -- limit.
 abbrev pub ReadChoice : Met → Choice → Type 0
 ReadChoice met (Play strict rule after limits) =
@@ -164,8 +163,8 @@ ReadChoice met Fault = Unit {0}
 abbrev pub IsRequest : ErrorKind → Type 0
 IsRequest kind = (kind ≡ DisplayHelp) ⊎ (kind ≡ DisplayVersion)
 
--- The choice at an error of this kind: a help text just for a request of help or of the version, and
--- a usage text for a mistake. Want of memory may stand in place of any.
+-- The choice at an error of this kind: a help text exactly at a request of help or of the version,
+-- and a usage text at a mistake. Lack of memory may take the place of any.
 abbrev pub ErrorChoice : ErrorKind → Choice → Type 0
 ErrorChoice kind (Play strict rule after limits) = ⊥
 ErrorChoice kind Dot = ⊥
@@ -181,8 +180,8 @@ ErrorChoice kind Fault = Unit {0}
 abbrev pub IsCommand : List Text → Choice → Type 0
 IsCommand words choice = (fault_of program words ≡ []) × ReadChoice (subcommand_of program words) choice
 
--- The choice that words ask for: a subcommand only where they name just that, a help text only
--- where help or the version was asked for, a usage text only at another error or at a value that is no limit.
+-- The choice that words ask for: a subcommand only if they name just that, a help text only if help
+-- or the version was asked for, a usage text only at another error or at a value that is no limit.
 abbrev pub ChoiceOf : List Text → Choice → Type 0
 ChoiceOf words (Play strict rule after limits) = IsCommand words (Play strict rule after limits)
 ChoiceOf words Dot = IsCommand words Dot

@@ -22,14 +22,14 @@ limit_rule flag = record (new_rule (flag_name flag)) { long = Some (flag_name fl
 abbrev pub limited : App → App
 limited app = with_rule (with_rule (with_rule (with_rule app (limit_rule LargestFile)) (limit_rule MostCalls)) (limit_rule MostTransactions)) (limit_rule Deepest)
 
--- the limit that the value of a flag tells: a size may have a unit behind it
+-- the limit that the value of a flag gives: a size may have a unit after it
 abbrev pub flag_limit : Flag → Text → Option ℕ
 flag_limit LargestFile text = size_of text greatest_limits.file_size
 flag_limit MostCalls text = limit_of text greatest_limits.calls
 flag_limit MostTransactions text = limit_of text greatest_limits.transactions
 flag_limit Deepest text = limit_of text greatest_limits.depth
 
--- the limit that a flag asks for, where it was found, by what was found of it
+-- the limit that a flag requests, if it was found, by what was found of it
 abbrev pub IsAskedBy : Flag → Option Text → Option ℕ → Type 0
 IsAskedBy flag None asked = asked ≡ None
 IsAskedBy flag (Some text) asked = (limit : ℕ) × (asked ≡ Some limit) × (flag_limit flag text ≡ Some limit)

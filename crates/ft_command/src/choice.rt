@@ -1,4 +1,4 @@
-// What a command line asks for.
+// The task that a command line requests.
 ghost use Rattle.std.specs.Prelude.{◌≡◌, IfOk, IfSome, Some, codes, false, map, option_map, string_bytes};
 ghost use Rattle.clap.specs.Words.{Text, app_of, found_of, kind_of, one_of, rows_of, rule_of, subcommand_rows_of};
 ghost use Rattle.ft_command.specs.Limits.{IsBadLimit};
@@ -12,23 +12,23 @@ use ft_moss::Rule;
 use std::alloc::{AllocError, Global};
 use std::convert::AsStr;
 
-/// What the program is to do.
+/// A task of the program.
 #[derive(Debug, Drop)]
 pub enum Choice {
     /// Run a script on a core that grants calls by this rule and has these limits, after the script
-    /// in a file, if there is one. Each of its lines has to do what it asks for where it is strict.
+    /// in a file, if there is one. If the run is strict, each line must do what it requests.
     Play {
         strict: bool,
         rule: Rule,
         after: Option<String>,
         limits: AskedLimits,
     },
-    /// Draw the last report on who waits for whom.
+    /// Draw the last report of which transaction waits for which.
     Dot,
-    /// Write a script that makes what this directory holds, or where it is to be checked, list what
-    /// can't be loaded. That is left out where it is to be skipped, and modes have their bits
-    /// S_ISUID and S_ISGID only where these are asked for. How far it has come is not shown where
-    /// it is to be quiet. No more is written than these limits allow.
+    /// Write a script that makes what this directory holds, or list the things in it that can't be
+    /// loaded, if it is to be checked. They are left out if they are to be skipped. Modes have
+    /// their bits S_ISUID and S_ISGID only if these are requested. Progress is not shown if it is
+    /// to be quiet. No more is written than these limits allow.
     Load {
         dir: String,
         skip: bool,
@@ -38,9 +38,9 @@ pub enum Choice {
         limits: AskedLimits,
     },
     /// Make this directory of the tree with which replies end. Modes have their bits S_ISUID and
-    /// S_ISGID only where these are asked for, and no owner and no group is set where that is not
-    /// wanted. How far it has come is not shown where it is to be quiet. A file that is larger than
-    /// these limits allow is refused.
+    /// S_ISGID only if these are requested, and no owner and no group is set if that is not wanted.
+    /// Progress is not shown if it is to be quiet. A file that is larger than these limits allow is
+    /// refused.
     Save {
         dir: String,
         set_id: bool,
@@ -48,9 +48,9 @@ pub enum Choice {
         quiet: bool,
         limits: AskedLimits,
     },
-    /// Run the jobs of the plan in a file, at this pace. How far they have come is not shown where
-    /// it is to be quiet. Their core grants calls by this rule and has these limits. The script in a
-    /// file, if there is one, is played first.
+    /// Run the jobs of the plan in a file, at this pace. Progress is not shown if it is to be
+    /// quiet. Their core grants calls by this rule and has these limits. The script in a file, if
+    /// there is one, is played first.
     Jobs {
         file: String,
         pace: AskedPace,
@@ -61,8 +61,7 @@ pub enum Choice {
     },
     /// Print this help, or the version, to the standard output, and end with status 0.
     Help(String),
-    /// Print this to the standard error, and end with status 2: the words ask for nothing that
-    /// there is.
+    /// Print this to the standard error, and end with status 2: the arguments are not valid.
     Usage(String),
     /// There was no memory to read the words.
     Fault,
@@ -73,27 +72,27 @@ pub enum Choice {
 pub struct AskedPace {
     /// A call of theirs asks at most so many times, at least once.
     pub turns: u64,
-    /// So many threads run them at most.
+    /// At most so many threads run them.
     pub threads: u64,
 }
 
-// How a script is run, how who waits for whom is drawn, how the jobs of a plan are run, and how
-// they begin with the files of one directory and end with those of another.
+// Examples: a script is run, its waits-for edges are drawn, the jobs of a plan are run, and jobs
+// begin with the files of one directory and end with those of another.
 const EXAMPLE: &str =
     "Example:\n  ft_run play < script.ft\n  ft_run play < script.ft | ft_run dot | dot -Tsvg > waits.svg\n  ft_run jobs build.plan\n  ft_run load src > src.ft\n  ft_run jobs build.plan --after src.ft | ft_run save out";
 
 // The version of the program, which is that of the library.
 const VERSION: &str = "0.1.0";
 
-// The most times that a call of a job may be told to ask.
+// The greatest number of attempts that may be set for a call of a job.
 const MOST_TURNS: u64 = 1_000_000;
 
 // The most threads that jobs may be given.
 const MOST_THREADS: u64 = 4096;
 
-/// What the words after the program's name ask for.
+/// Returns the task that the arguments after the program's name request.
 ///
-/// The texts are those of the crate that reads the words.
+/// The texts are those of the crate that reads the arguments.
 pub fn choose<'a, S: AsStr>(alloc: Global, words: &'a [S]) -> Choice
     ensures { ChoiceOf (map S.text words.entry.now) result }
 {
@@ -106,7 +105,7 @@ pub fn choose<'a, S: AsStr>(alloc: Global, words: &'a [S]) -> Choice
     }
 }
 
-// The choice where the words could be read. The crate that reads them knows no other subcommand.
+// The choice if the words could be read. The crate that reads them knows no other subcommand.
 fn choice_of(alloc: Global, matches: &ArgMatches) -> Choice
     ensures { ReadChoice (subcommand_rows_of matches.now) result }
 {
@@ -128,7 +127,7 @@ fn choice_of(alloc: Global, matches: &ArgMatches) -> Choice
     }
 }
 
-// The choice where a script is to be run.
+// The choice if a script is to be run.
 fn play_choice(alloc: Global, found: &ArgMatches) -> Choice
     ensures { ReadChoice (Some (codes "play", rows_of (found_of found.now))) result }
 {
@@ -149,7 +148,7 @@ fn play_choice(alloc: Global, found: &ArgMatches) -> Choice
     }
 }
 
-// The choice where a report is to be drawn. The limits are for the other commands of a pipe.
+// The choice if a report is to be drawn. The limits are for the other commands of a pipe.
 fn dot_choice(alloc: Global, found: &ArgMatches) -> Choice
     ensures { ReadChoice (Some (codes "dot", rows_of (found_of found.now))) result }
 {
@@ -159,7 +158,7 @@ fn dot_choice(alloc: Global, found: &ArgMatches) -> Choice
     }
 }
 
-// The choice where the value of a flag is no limit.
+// The choice if the value of a flag is no limit.
 fn misused(alloc: Global, found: &ArgMatches, flag: Flag) -> Choice
     ensures { (name : Text) → IsBadLimit flag (rows_of (found_of found.now)) → ReadChoice (Some (name, rows_of (found_of found.now))) result }
 {
@@ -175,7 +174,7 @@ fn misused(alloc: Global, found: &ArgMatches, flag: Flag) -> Choice
     }
 }
 
-// The choice where a directory is to be loaded.
+// The choice if a directory is to be loaded.
 fn load_choice(alloc: Global, found: &ArgMatches) -> Choice
     ensures { ReadChoice (Some (codes "load", rows_of (found_of found.now))) result }
 {
@@ -200,7 +199,7 @@ fn load_choice(alloc: Global, found: &ArgMatches) -> Choice
     }
 }
 
-// The choice where a directory is to be saved.
+// The choice if a directory is to be saved.
 fn save_choice(alloc: Global, found: &ArgMatches) -> Choice
     ensures { ReadChoice (Some (codes "save", rows_of (found_of found.now))) result }
 {
@@ -223,7 +222,7 @@ fn save_choice(alloc: Global, found: &ArgMatches) -> Choice
     }
 }
 
-// The choice where the jobs of a plan are to be run.
+// The choice if the jobs of a plan are to be run.
 fn jobs_choice(alloc: Global, found: &ArgMatches) -> Choice
     ensures { ReadChoice (Some (codes "jobs", rows_of (found_of found.now))) result }
 {
@@ -270,7 +269,7 @@ fn asked_dir(alloc: Global, found: &ArgMatches) -> Option<String>
     Some(dir)
 }
 
-// Whether each line has to do what it asks for.
+// Whether each line must do what it requests.
 fn asked_strict(found: &ArgMatches) -> bool
     ensures { IsFlag (one_of (codes "strict") (rows_of (found_of found.now))) result }
 {
@@ -334,7 +333,7 @@ fn bare<'a>(alloc: Global) -> Command<'a>
     ensures { app_of result ≡ bare }
 {
     Command::new(alloc, "ft_run")
-        .about("Runs scripts of transactions on a tree of directories")
+        .about("Runs transaction scripts on an in-memory file tree")
         .version(VERSION)
         .no_binary_name(true)
         .subcommand_required(true)
@@ -354,13 +353,13 @@ fn play_command<'a>(alloc: Global) -> Result<Command<'a>, AllocError>
     with_limits(alloc, command)
 }
 
-// The part of it that draws who waits for whom.
+// The part of it that draws which transaction waits for which.
 fn dot_command<'a>(alloc: Global) -> Result<Command<'a>, AllocError>
     ensures app { IfOk result (λ command. app_of command ≡ dot) }
     ensures local { IfOk result HasNoGlobals }
 {
     let command = Command::new(alloc, "dot").about(
-        "Draws who waits for whom: the last report among replies, in the DOT language",
+        "Writes the last waits-for report as a Graphviz graph",
     );
     with_limits(alloc, command)
 }
@@ -371,7 +370,7 @@ fn load_command<'a>(alloc: Global) -> Result<Command<'a>, AllocError>
     ensures local { IfOk result HasNoGlobals }
 {
     let command = Command::new(alloc, "load")
-        .about("Writes a script that makes what a directory holds")
+        .about("Writes a script that makes the contents of a directory")
         .arg(dir_arg(alloc))?
         .arg(skip_arg(alloc))?
         .arg(check_arg(alloc))?
@@ -386,7 +385,7 @@ fn save_command<'a>(alloc: Global) -> Result<Command<'a>, AllocError>
     ensures local { IfOk result HasNoGlobals }
 {
     let command = Command::new(alloc, "save")
-        .about("Makes a directory of the tree with which replies end")
+        .about("Makes a directory from the tree at the end of replies")
         .arg(dir_arg(alloc))?
         .arg(set_id_arg(alloc))?
         .arg(no_owners_arg(alloc))?
@@ -400,7 +399,7 @@ fn jobs_command<'a>(alloc: Global) -> Result<Command<'a>, AllocError>
     ensures local { IfOk result HasNoGlobals }
 {
     let command = Command::new(alloc, "jobs")
-        .about("Runs the jobs of a plan in threads, and prints what they came to")
+        .about("Runs the jobs of a plan in threads, and prints the outcome")
         .arg(file_arg(alloc))?
         .arg(turns_arg(alloc))?
         .arg(quiet_arg(alloc))?
@@ -429,7 +428,7 @@ fn skip_arg<'a>(alloc: Global) -> Arg<'a>
     Arg::new(alloc, "skip")
         .long("skip")
         .action(ArgAction::SetTrue)
-        .help("Leave out what can't be loaded, tell of it, and end with status 3")
+        .help("Leave out what can't be loaded, list it, and end with status 3")
 }
 
 // The flag that only lists what can't be loaded.
@@ -462,10 +461,10 @@ fn no_owners_arg<'a>(alloc: Global) -> Arg<'a>
     Arg::new(alloc, "no-owners")
         .long("no-owners")
         .action(ArgAction::SetTrue)
-        .help("Set no owners and no groups, which else the superuser sets")
+        .help("Do not set owners and groups, even as the superuser")
 }
 
-// The flag that ends a run at the first line that does not do what it asks for.
+// The flag that ends a run at the first line that does not do what it requests.
 fn strict_arg<'a>(alloc: Global) -> Arg<'a>
     ensures rule { rule_of result ≡ strict_rule }
     ensures local { result.global ≡ false }
@@ -473,7 +472,7 @@ fn strict_arg<'a>(alloc: Global) -> Arg<'a>
     Arg::new(alloc, "strict")
         .long("strict")
         .action(ArgAction::SetTrue)
-        .help("End with status 3 at the first line that does not do what it asks for")
+        .help("End with status 3 at the first line that is invalid, refused, fails or waits")
 }
 
 // The script that is played first.
@@ -484,7 +483,7 @@ fn after_arg<'a>(alloc: Global) -> Arg<'a>
     Arg::new(alloc, "after")
         .long("after")
         .value_name("FILE")
-        .help("A script that is played first, without its replies")
+        .help("Play this script first, without printing its replies")
 }
 
 // The plan of it.
@@ -508,7 +507,7 @@ fn turns_arg<'a>(alloc: Global) -> Arg<'a>
         .value_name("N")
         .value_parser(ValueParser::unsigned(1, MOST_TURNS))
         .default_value("10000")
-        .help("How often a call that waits asks at most")
+        .help("Maximum number of attempts per blocked call")
 }
 
 // How many threads run jobs at most.
@@ -521,7 +520,7 @@ fn threads_arg<'a>(alloc: Global) -> Arg<'a>
         .value_name("N")
         .value_parser(ValueParser::unsigned(1, MOST_THREADS))
         .default_value("64")
-        .help("How many threads run the jobs at most")
+        .help("Maximum number of threads that run jobs")
 }
 
 // The flag that leaves out how far it has come.
@@ -532,10 +531,10 @@ fn quiet_arg<'a>(alloc: Global) -> Arg<'a>
     Arg::new(alloc, "quiet")
         .long("quiet")
         .action(ArgAction::SetTrue)
-        .help("Don't show on a terminal how far it has come")
+        .help("Do not show progress")
 }
 
-// The flag that asks for Moss's rule for holders.
+// The flag that requests Moss's rule for holders.
 fn moss_arg<'a>(alloc: Global) -> Arg<'a>
     ensures rule { rule_of result ≡ moss_rule }
     ensures local { result.global ≡ false }
@@ -543,10 +542,10 @@ fn moss_arg<'a>(alloc: Global) -> Arg<'a>
     Arg::new(alloc, "moss")
         .long("moss")
         .action(ArgAction::SetTrue)
-        .help("Let a lock that a parent holds be in its children's way too")
+        .help("Also block calls on locks that an ancestor holds (Moss's stricter rule)")
 }
 
-// The choice where the words could not be read.
+// The choice if the words could not be read.
 fn choice_at(alloc: Global, error: &Error) -> Choice
     ensures { ErrorChoice (kind_of error.now) result }
 {

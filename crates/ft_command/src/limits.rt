@@ -10,7 +10,7 @@ use ft_core::Limits;
 use ft_needs::{limit_of, size_of};
 use std::alloc::{AllocError, Global};
 
-/// The limits that are asked for, each where its flag stands.
+/// The limits that are requested, each with its flag.
 #[derive(Clone, Copy, Debug, PartialEq, Eq)]
 pub struct AskedLimits {
     pub file_size: Option<u64>,
@@ -62,7 +62,7 @@ impl Flag {
         }
     }
 
-    /// The limit that a value of it tells.
+    /// The limit that a value of it gives.
     pub(crate) fn limit_of(self, value: &str) -> Option<u64>
         ensures { result ≡ flag_limit self value.now }
     {
@@ -76,17 +76,17 @@ impl Flag {
         }
     }
 
-    /// What a value of it may be.
+    /// The values that it may have.
     pub(crate) fn values(self) -> &'static str {
         match self {
-            Flag::LargestFile => "a number of bytes up to 2^47, with K, M or G behind it",
+            Flag::LargestFile => "a number of bytes up to 2^47, with or without K, M or G",
             Flag::MostCalls | Flag::MostTransactions => "a number up to 2^62",
             Flag::Deepest => "a number up to 4096",
         }
     }
 }
 
-/// The limits that flags ask for, or one of them whose value is no limit.
+/// Returns the limits that flags request, or one of the flags whose value is no limit.
 pub(crate) fn asked_limits(found: &ArgMatches) -> Result<AskedLimits, Flag>
     ensures ok { IfOk result (TellsLimits (rows_of (found_of found.now))) }
     ensures err { IfErr result (λ flag. IsBadLimit flag (rows_of (found_of found.now))) }
@@ -99,7 +99,7 @@ pub(crate) fn asked_limits(found: &ArgMatches) -> Result<AskedLimits, Flag>
     })
 }
 
-// The limit that a flag asks for, where it stands; or the flag, where its value is no limit.
+// The limit that a flag requests, if it is given; or the flag, if its value is no limit.
 fn asked_limit(found: &ArgMatches, flag: Flag) -> Result<Option<u64>, Flag>
     ensures ok { IfOk result (IsAsked flag (rows_of (found_of found.now))) }
     ensures err { IfErr result (λ bad. (bad ≡ flag) × IsBadLimit flag (rows_of (found_of found.now))) }
@@ -125,22 +125,22 @@ pub(crate) fn with_limits<'a>(
         .arg(limit_arg(
             alloc,
             Flag::LargestFile,
-            "How many bytes a file may have, as 3G, or none",
+            "Maximum bytes of a file, such as 3G, or none",
         ))?
         .arg(limit_arg(
             alloc,
             Flag::MostCalls,
-            "How many calls are granted, or none",
+            "Maximum number of granted calls, or none",
         ))?
         .arg(limit_arg(
             alloc,
             Flag::MostTransactions,
-            "How many transactions begin, or none",
+            "Maximum number of transactions, or none",
         ))?
         .arg(limit_arg(
             alloc,
             Flag::Deepest,
-            "How deep a transaction may stand, or none",
+            "Maximum depth of nested transactions, or none",
         ))
 }
 

@@ -1,4 +1,4 @@
--- What a refusal of the transactions is as a refusal of the core.
+-- A refusal of the transactions, as a refusal of the core.
 use Rattle.ft_forest.specs.declared.fault.ForestFault.{ForestFault}
 use Rattle.ft_forest.specs.declared.fault.ForestFault.TheVariants as forest
 use Rattle.ft_core.specs.declared.fault.Fault.{Fault}

@@ -1,4 +1,4 @@
--- What became of a call that was asked for, with all that was made of it.
+-- The outcome of a call that was requested, with all that was made of it.
 use Rattle.std.specs.Prelude.{◌≡◌, Bool, cond, Some, None}
 use Rattle.ft_posix.specs.declared.call.Call.{Call}
 use Rattle.ft_core.specs.declared.parts.Made.{Made}
@@ -12,7 +12,7 @@ use Rattle.ft_core.specs.declared.request.Answer.{Answer}
 use Rattle.ft_core.specs.Steps.{outcome_answer}
 use Rattle.ft_core.specs.States.{State, accesses_now}
 
--- what is told of it
+-- the outcome that its asker gets
 abbrev pub outcome_of : FullOutcome → Outcome
 outcome_of (full.Granted k call reply kept accesses) = outcome.Granted k reply
 outcome_of (full.Waits blockers) = outcome.Waits blockers
@@ -26,7 +26,7 @@ abbrev pub IsToldInFull : State → Call → FullOutcome → Type 0
 IsToldInFull s call (full.Granted k made reply kept accesses) = (made ≡ call) × (kept ≡ Some reply) × (accesses.items ≡ accesses_now s call)
 IsToldInFull s call (full.Waits blockers) = Unit {0}
 
--- the reply of a call that was tried and made, a second time where that was wanted
+-- the reply of a call that was tried and made, a second time if that was wanted
 abbrev pub IsTwice : Bool → Made → Tried → Type 0
 IsTwice twice made WasMade = made.kept ≡ cond twice (Some made.reply) None
 IsTwice twice made (Blocked blockers) = Unit {0}

@@ -1,4 +1,4 @@
--- What a transaction hands to its parent when it commits, and at the top level to nobody. (Moss,
+-- A transaction hands this to its parent when it commits, and at the top level to nobody. (Moss,
 -- Nested Transactions, MIT 1981, commit of a transaction.)
 use Rattle.std.specs.Prelude.{◌≡◌, ◌≢◌, ℕ, true, Option, Some, None}
 use Rattle.ft_base.specs.Chains.{Lists}

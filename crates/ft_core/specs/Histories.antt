@@ -1,6 +1,6 @@
--- What has happened, told as a history of the calls on a tree. Which transactions live,
--- which calls stand, who owns which locks and what an undo takes back follow from it alone,
--- by the definitions of ft_history.
+-- The events, as a history of the calls on a tree. By the definitions of ft_history, four things
+-- follow from the history alone: which transactions are live, which calls are standing, which
+-- transactions own which locks, and which call an undo undoes.
 use Rattle.std.specs.Prelude.{ℕ, List, [], ◌∷◌, map}
 use Rattle.ft_laws.specs.Calls.{Done}
 use Rattle.ft_history.specs.History.{Event as Happening, parent}
@@ -14,7 +14,7 @@ use Rattle.ft_core.specs.declared.request.Event.{Event}
 use Rattle.ft_core.specs.declared.request.Event.TheVariants.{Begin, Call as CallEvent, Undo, Commit, Abort}
 
 -- A history of calls on a tree: what has happened, newest first, as events of
--- ft_history at the twenty calls.
+-- ft_history at the twenty-eight calls.
 abbrev pub History : Type 0
 History = List (Happening posix_calls)
 
@@ -22,7 +22,7 @@ History = List (Happening posix_calls)
 abbrev pub Granted : Type 0
 Granted = Done posix_calls
 
--- a granted call: its stamp, who asked, the call, its reply and its accesses
+-- a granted call: its stamp, its asker, the call, its reply and its accesses
 abbrev pub granted : ℕ → ℕ → Call → Reply → List Access → Granted
 granted k t call reply accesses = record { asker = t; call = record { stamp = k; call = call }; accesses = map as_place accesses; reply = reply }
 
@@ -39,7 +39,7 @@ abbrev pub told_after : History → List Event → History
 told_after h [] = h
 told_after h (e ∷ events) = told_after (as_happening e ∷ h) events
 
--- the events, which stand oldest first, as a history
+-- the events, the oldest first, as a history
 abbrev pub told : List Event → History
 told events = told_after [] events
 

@@ -1,4 +1,5 @@
--- What a journal is seen as: what has happened, and what is noted of the live transactions.
+-- The contents of a journal as clauses see them: the events, and what is noted of the live
+-- transactions.
 use Rattle.std.specs.Prelude.{ℕ, ◌<◌, ◌+◌, ◌-◌, Bool, ◌||◌, nat_le, List, [], ◌∷◌, ◌++◌, Option, Some, None, IsSome, refl}
 use Rattle.std.specs.Option.{option_flatten}
 use Rattle.std.specs.Ordering.{nat_cmp}
@@ -41,8 +42,7 @@ coded_journaled =
     (λ j. (j.rule, (j.calls, (j.events, (j.asks, (j.subs, (j.base_tree, (j.base_stamp, j.last_stamp))))))))
     (λ p. record { rule = p.0; calls = p.1.0; events = p.1.1.0; asks = p.1.1.1.0; subs = p.1.1.1.1.0; base_tree = p.1.1.1.1.1.0; base_stamp = p.1.1.1.1.1.1.0; last_stamp = p.1.1.1.1.1.1.1 }) (λ _. refl)
 
--- A tree from which a history may go on: it is sound, and no number above
--- the last stamp stands in it.
+-- A tree from which a history may go on: it is sound, and no number above the last stamp is in it.
 pub record IsBaseTree (cells : Cells) (stamp : ℕ) : Type 0 where
   pub sound : AreSoundCells cells
   pub free : (k : ℕ) → stamp < k → IsFree cells k

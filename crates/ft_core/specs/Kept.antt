@@ -1,4 +1,4 @@
--- What a core keeps true of itself.
+-- The invariant of a core.
 use Rattle.std.specs.Prelude.{◌≡◌, ◌≤◌, ◌+◌, ℕ, Bool, true, false, is_some, List, [], ◌∷◌, Some, None, length, map}
 use Rattle.std.specs.FinMap as finite
 use Rattle.ft_base.specs.Chains.{Lists, list_in}
@@ -34,11 +34,11 @@ use Rattle.ft_core.specs.States.{Base, State, Asks, fate_in, history}
 use Rattle.ft_core.specs.Sweeps.{HasNoUselessPlace}
 use Rattle.ft_core.specs.Journals.{Journaled}
 
--- a call that can be taken back, with its inverse
+-- a call that can be undone, with its inverse
 abbrev pub Item : Type 0
 Item = Entry posix_calls
 
--- what the history starts from, where the base is stored in these cells
+-- what the history starts from, if the base is stored in these cells
 abbrev pub start_of : Base → Cells → HistoryBase posix_calls
 start_of base store = record { store = store; transaction = base.last_txn; stamp = base.last_stamp }
 
@@ -56,9 +56,8 @@ pub record IsStarted (base : Base) (h : History) (last_txn last_number : ℕ) : 
   pub stamped : base.last_stamp + length (grants posix_calls h) ≡ last_number
   pub within : last_number ≤ LAST_NUMBER
 
--- The cells are those of the standing calls, but for files that a sweep took away, and
--- the lists can take back each call that has an owner: they are what a core of
--- ft_history keeps, with sound cells.
+-- The cells are those of the standing calls, except files that a sweep took away, and the lists can
+-- undo each call that has an owner: they are what a core of ft_history keeps, with sound cells.
 pub record IsKept (base : Base) (h : History) (last_txn last_number : ℕ) (cells : Cells) (log : ℕ → List Item) : Type 0 where
   pub started : IsStarted base h last_txn last_number
   pub hidden : ℕ → Bool
@@ -74,7 +73,7 @@ pub record AreTransactions (base : Base) (h : History) (last_txn : ℕ) (forest 
   pub parents : (x : ℕ) → parent_in forest x ≡ parent posix_calls h x
   pub fates : (x : ℕ) → fate_in (state_in forest x) ≡ fate posix_calls base.last_txn h x
 
--- What takes calls back.
+-- The inverses of calls.
 
 -- a cell with a value that it gets
 abbrev pub Change : Type 0
@@ -92,7 +91,7 @@ file_is_stored cells (FdCell f) (Some o) = HasFilePlace cells o.file
 file_is_stored cells (DirAttributesCell d) to = Unit {0}
 file_is_stored cells (FileAttributesCell i) to = Unit {0}
 
--- What takes a call back is of cells that the call wrote, of each one once.
+-- The inverse of a call is of cells that the call wrote, of each one once.
 pub record IsOfWritten (e : Item) : Type 0 where
   pub before : Each (λ (w : Change). writes_cell e.done.accesses w.cell ≡ true) e.inverse.before
   pub after : Each (λ (w : Change). writes_cell e.done.accesses w.cell ≡ true) e.inverse.after
@@ -104,21 +103,21 @@ pub record ArePlaced (cells : Cells) (e : Item) : Type 0 where
   pub written : Each (λ (w : Change). IsStored cells w.cell) e.inverse.after
   pub files : Each (λ (w : Change). file_is_stored cells w.cell w.value) e.inverse.before
 
--- What takes a call back does what the call's inverse does, and may do so where the cells have
--- their places and hold what the call left.
+-- A stored inverse does what the call's inverse does, and may do so if the cells have their places
+-- and hold what the call left.
 pub record TakesBack (e : Item) (x : Logged) : Type 0 where
   pub stamp : x.stamp ≡ e.done.call.stamp
   pub same : map given_back x.undo ≡ e.inverse.before
   pub may : (cells : Cells) → Each (λ (w : Change). IsStored cells w.cell) e.inverse.after → Has posix cells e.inverse.after → CanGiveAllBack cells x.undo
 
--- the list of what takes calls back is that of the calls and their inverses
+-- the list of stored inverses is that of the calls and their inverses
 abbrev pub AreLogged : List Item → List Logged → Type 0
 AreLogged [] [] = Unit {0}
 AreLogged [] (x ∷ xs) = ⊥
 AreLogged (e ∷ es) [] = ⊥
 AreLogged (e ∷ es) (x ∷ xs) = TakesBack e x × AreLogged es xs
 
--- The logs have what takes each call back that the lists tell, and each may be put to the cells.
+-- The logs have the inverse of each call in the lists, and each may be put to the cells.
 pub record AreLogs (cells : Cells) (log : ℕ → List Item) (lists : Lists Logged) : Type 0 where
   pub logged : (t : ℕ) → AreLogged (log t) (list_in lists t)
   pub placed : (t : ℕ) (e : Item) → In e (log t) → ArePlaced cells e
@@ -140,8 +139,8 @@ allowed base forest j = record {
   calls = j.calls;
 }
 
--- What a core keeps: its tree, its transactions, its locks and its lists are those of its history,
--- whatever can be taken back has its places, and a place of no use is locked or was let go.
+-- The invariant of a core: its tree, its transactions, its locks and its lists are those of its
+-- history, whatever can be undone has its places, and a place of no use is locked or was released.
 pub record IsCoreAt (base : Base) (h : History) (asks : Asks) (last_txn last_number : ℕ) (cells : Cells) (forest : Transactions) (table : LockTable) (lists : Lists Logged) (j : Journaled) : Type 0 where
   pub log : ℕ → List Item
   pub kept : IsKept base h last_txn last_number cells log
@@ -157,7 +156,7 @@ pub record IsCoreAt (base : Base) (h : History) (asks : Asks) (last_txn last_num
   pub accounted : IsAccounted (is_locked table) (is_let_go table) cells
   -- no limit is above the greatest
   pub within : are_within (allowed base forest j) greatest_limits ≡ true
-  -- where nothing has happened no place is of no use
+  -- if nothing has happened no place is of no use
   pub bare : h ≡ [] → HasNoUselessPlace cells
 
 -- a state, the parts of its core and its journal are such

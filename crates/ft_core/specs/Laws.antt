@@ -1,4 +1,4 @@
--- What is known of the calls and of their locks.
+-- Facts of the calls and of their locks.
 use Rattle.ft_laws.specs.Laws.{Lawful}
 use Rattle.ft_posix.specs.CellLaws.{SettingLaw}
 use Rattle.ft_posix.specs.Edits.{PlacesLaw}

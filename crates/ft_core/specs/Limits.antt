@@ -1,4 +1,4 @@
--- What a core allows: of its tree, as POSIX has it of a file system (POSIX.1-2017, System
+-- The limits of a core: of its tree, as POSIX has them of a file system (POSIX.1-2017, System
 -- Interfaces, pathconf: FILESIZEBITS and LINK_MAX), and of what happens. (Their values are rules of
 -- this project.)
 use Rattle.std.specs.Prelude.{ℕ, Bool, ◌&&◌, nat_le}
@@ -9,8 +9,8 @@ use Rattle.ft_forest.specs.declared.TheConstants.{DEFAULT_DEPTH, DEFAULT_TRANSAC
 use Rattle.ft_core.specs.declared.TheConstants.{DEFAULT_CALLS, MOST_CALLS, MOST_DEPTH, MOST_LINKS}
 use Rattle.ft_core.specs.declared.limits.Limits.{Limits}
 
--- what is allowed of a history: how deep a transaction may stand, and how many transactions and
--- granted calls there may be since the base
+-- the limits of a history: how deep a transaction may be, and how many transactions and granted
+-- calls there may be since the base
 pub record HistoryLimits : Type 0 where
   pub depth : ℕ
   pub transactions : ℕ
@@ -24,8 +24,8 @@ of_tree l = record { file_size = l.file_size; links = l.links }
 abbrev pub of_history : Limits → HistoryLimits
 of_history l = record { depth = l.depth; transactions = l.transactions; calls = l.calls }
 
--- where nobody asks for more: files of a mebibyte with 1,000 links, transactions 64 deep, 100,000
--- of them, and 1,000,000 calls
+-- if nobody asks for more: files of a mebibyte with 1,000 links, transactions 64 deep, 100,000 of
+-- them, and 1,000,000 calls
 abbrev pub default_limits : Limits
 default_limits = record {
   file_size = default_of_tree.file_size;

@@ -1,4 +1,4 @@
--- What it is to make a call on the parts of a core.
+-- A call that is made on the parts of a core.
 use Rattle.std.specs.Prelude.{◌≡◌, ℕ, List, map}
 use Rattle.ft_base.specs.Chains.{list_in}
 use Rattle.ft_laws.specs.Effects.{before}

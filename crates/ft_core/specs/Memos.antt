@@ -1,4 +1,4 @@
--- What is known of where the front of a path leads a transaction.
+-- The place to which the front of a path leads a transaction.
 use Rattle.std.specs.Prelude.{◌≡◌, ◌≢◌, ℕ, List, [], ◌∷◌, Option, None, Some}
 use Rattle.ft_laws.specs.Lists.{In}
 use Rattle.ft_cells.specs.declared.cell.Cell.{Cell}
@@ -29,16 +29,16 @@ abbrev pub IsHeldIfAny : Cells → LockTable → ℕ → Option Front → Type 0
 IsHeldIfAny cells table txn None = Unit {0}
 IsHeldIfAny cells table txn (Some front) = IsHeld cells table txn front
 
--- if there is one, the transaction shares what it has locked with its ancestors alone
+-- if there is one, the transaction shares what it has locked only with its ancestors
 abbrev pub IsAloneIfAny : LockTable → Transactions → ℕ → Option Front → Type 0
 IsAloneIfAny table forest txn None = Unit {0}
 IsAloneIfAny table forest txn (Some front) = HasItsCellsAlone table forest txn
 
--- what a memo tells is so
+-- a memo is true
 abbrev pub IsTrueOf : Memo → Cells → LockTable → Type 0
 IsTrueOf memo cells table = (txn : ℕ) → memo.txn ≡ Some txn → IsHeld cells table txn memo.front
 
--- none of these entries stands in the directory
+-- none of these entries is in the directory
 abbrev pub StandElsewhere : List Cell → ℕ → Type 0
 StandElsewhere entries dir = (e : EntryOf) → In (EntryCell e) entries → e.dir ≢ dir
 

@@ -1,5 +1,4 @@
--- What it is that the lock table, the logs and the journal are ready for a
--- transaction that is to begin.
+-- The lock table, the logs and the journal are ready for a transaction that is to begin.
 use Rattle.std.specs.Prelude.{◌≡◌, ◌≢◌, ℕ, true, Option, None, Some}
 use Rattle.std.specs.FinMap as finite
 use Rattle.ft_base.specs.Chains.{Lists, list_in}

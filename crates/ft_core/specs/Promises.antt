@@ -1,4 +1,4 @@
--- What is promised of every state that a core can come to.
+-- The promises of every state that a core can reach.
 use Rattle.std.specs.Prelude.{◌≡◌, ◌<◌, ℕ, false, List, [], ◌∷◌, ◌++◌, Option, Some}
 use Rattle.ft_laws.specs.Lists.{Each, Pairs}
 use Rattle.ft_cells.specs.Cells.{Cells}
@@ -16,15 +16,15 @@ use Rattle.ft_core.specs.Histories.{told}
 use Rattle.ft_core.specs.States.{State, history, fate_of, has_live_child, standing_calls, tree_of}
 
 -- The headline: tidied, the cells are the tree of the state, which is what the plain tree holds
--- after the standing calls alone, from the base; made so in turn they give the replies that they
--- got, and they stand in the order of their stamps.
+-- after only the standing calls, from the base. Made in turn, these calls give the replies that
+-- they got, and they are in the order of their stamps.
 pub record IsHeadline (s : State) (cells : Cells) : Type 0 where
   pub tree : tidy cells ≡ tree_of s
   pub replies : GiveReplies s.base.tree (standing_calls s)
   pub order : Pairs (λ b a. b.call.stamp < a.call.stamp) (standing_calls s)
 
 -- The last event is a granted call of t with this stamp, before which the state was the one given,
--- and t has no live child. Who waits for what does not matter.
+-- and t has no live child. The pending asks do not matter.
 pub record IsJustMade (before s : State) (t k : ℕ) : Type 0 where
   pub base : s.base ≡ before.base
   pub call : Call
@@ -34,7 +34,7 @@ pub record IsJustMade (before s : State) (t k : ℕ) : Type 0 where
   pub alone : has_live_child s t ≡ false
 
 -- t is live, and since its begin, before which the state was the one given, the calls, undos and
--- aborts are of t's subtree alone. (A rule of this project.)
+-- aborts are only of t's subtree. (A rule of this project.)
 pub record RanAlone (before s : State) (t : ℕ) : Type 0 where
   pub live : fate_of s t ≡ Some Live
   pub base : s.base ≡ before.base

@@ -1,4 +1,4 @@
--- What is true of every core. (Which calls wait is not among it, but who does.)
+-- Facts of every core. (They include which transactions wait, not which calls wait.)
 use Rattle.std.specs.Prelude.{◌≡◌, ℕ, true, Some, is_some}
 use Rattle.std.specs.FinMap as finite
 use Rattle.ft_tree.specs.Sound.{AreSoundCells}
@@ -10,8 +10,8 @@ use Rattle.ft_core.specs.States.{Base, State, StoredState, history, fate_of}
 use Rattle.ft_core.specs.Promises.{IsHeadline}
 use Rattle.ft_core.specs.Kept.{IsStarted, start_of}
 
--- From the cells of a sound base each event was allowed when it came: the stamps rise, and a
--- granted call had nobody in its way and the reply and accesses that are told of it.
+-- From the cells of a sound base each event was allowed when it came: the stamps rise, and nobody
+-- blocked a granted call, which has the reply and the accesses that are noted of it.
 pub record IsLegalFrom (base : Base) (h : History) (last_txn last_number : ℕ) : Type 0 where
   pub started : IsStarted base h last_txn last_number
   pub legal : Legal posix_calls (start_of base started.store) h

@@ -1,4 +1,4 @@
--- What a core tells of its locks, of who waits for whom, and of live children.
+-- The reports of a core: its locks, which transaction waits for which, and live children.
 use Rattle.std.specs.Prelude.{◌≡◌, ◌<◌, ◌↔◌, ℕ, true, Option, Some, None, List, [], ◌∷◌, map}
 use Rattle.std.specs.FinMap as finite
 use Rattle.std.specs.Ordering.{nat_cmp, ordering_then}
@@ -22,16 +22,16 @@ pub record AreLockLines (s : State) (lines : List LockLine) : Type 0 where
   pub order : Pairs (λ x y. line_cmp x y ≡ Less) lines
   pub exact : (l : LockLine) → In l lines ↔ (is_lock (history s) l ≡ true)
 
--- who is in the way of a call now: by the rule, with the accesses that the call
--- has on the tree of the state
+-- the blockers of a call now: by the rule, with the accesses that the call has on the tree of the
+-- state
 abbrev pub blockers_now : State → ℕ → Call → List ℕ
 blockers_now s t call = exact_rule s t (accesses_now s call)
 
--- each of these with who is in the way of its call
+-- each of these with the blockers of its call
 abbrev pub waits_from : State → List (ℕ × Call) → List (ℕ × List ℕ)
 waits_from s asks = map (λ ask. (ask.0, blockers_now s ask.0 ask.1)) asks
 
--- each transaction that waits for a call, in rising order, with who is in the way of it now
+-- each transaction that waits for a call, in rising order, with its blockers now
 abbrev pub waits : State → List (ℕ × List ℕ)
 waits s = waits_from s (finite.entries s.asks)
 
@@ -39,7 +39,7 @@ waits s = waits_from s (finite.entries s.asks)
 abbrev pub as_wait : Pending → ℕ × List ℕ
 as_wait p = (p.txn, p.blockers.items)
 
--- those in the way of it stand in rising order, each once
+-- its blockers are in rising order, each once
 abbrev pub HasRisingBlockers : Pending → Type 0
 HasRisingBlockers p = Pairs (λ x y. x < y) p.blockers.items
 

@@ -1,7 +1,7 @@
--- The state of a core: what its contracts say of it, and what a reader has to believe, with
--- Histories, Living, Steps, Promises, Reports, Sweeps and Reached. What follows from the events
--- alone is said by ft_history at the calls of ft_posix, and not a second time here. (Rules of this
--- project, where no source is given.)
+-- The state of a core: the subject of its contracts. A reader must trust this file with Histories,
+-- Living, Steps, Promises, Reports, Sweeps and Reached. Everything that follows from the events
+-- alone is defined by ft_history at the calls of ft_posix, and not a second time here. (Rules of
+-- this project, if no source is given.)
 use Rattle.std.specs.Prelude.{ℕ, ◌+◌, Bool, not, ◌||◌, ◌==◌, nat_le, nat_lt, List, [], ◌∷◌, ◌++◌, Option, Some, None, length, refl}
 use Rattle.std.specs.Ordering.{nat_cmp}
 use Rattle.std.specs.FinMap as finite
@@ -36,8 +36,7 @@ use Rattle.ft_core.specs.contracts.request.Event as event
 use Rattle.ft_core.specs.Histories.{History, Granted, told, depth_of}
 use Rattle.ft_core.specs.Limits.{HistoryLimits, of_tree, of_history}
 
--- what stood at the start, or at the last checkpoint: a plain tree, the last
--- transaction's number and the last stamp
+-- the start, or the last checkpoint: a plain tree, the last transaction's number and the last stamp
 pub record Base : Type 0 where
   pub tree : PlainTree
   pub last_txn : ℕ
@@ -47,10 +46,10 @@ pub record Base : Type 0 where
 abbrev pub Asks : Type 0
 Asks = finite.FinMap nat_cmp Call
 
--- the rule for holders, the limits of what may happen, the base, what has happened since, who waits
--- for what, and the last numbers given
+-- the rule for holders, the limits of what may happen, the base, the events since, the pending
+-- asks, and the last numbers given
 pub record State : Type 0 where
-  -- by which rule it is told who is in the way of a call; it never changes
+  -- the rule by which transactions block a call; it never changes
   pub rule : Rule
   -- what is allowed of the history; it never changes, and those of the tree are the tree's
   pub limits : HistoryLimits
@@ -84,8 +83,8 @@ coded_state =
     (λ s. (s.rule, (s.limits, (s.base, (s.events, (s.asks, (s.last_txn, s.last_stamp)))))))
     (λ p. record { rule = p.0; limits = p.1.0; base = p.1.1.0; events = p.1.1.1.0; asks = p.1.1.1.1.0; last_txn = p.1.1.1.1.1.0; last_stamp = p.1.1.1.1.1.1 }) (λ _. refl)
 
--- What a core is: its state, and the cells in which its tree is stored. No call sees more of them
--- than their tree; how many places they have is what a sweep changes.
+-- A core: its state, and the cells in which its tree is stored. No call sees more of them than
+-- their tree; a sweep changes only how many places they have.
 pub record StoredState : Type 0 where
   pub state : State
   pub cells : Cells
@@ -94,7 +93,7 @@ pub record StoredState : Type 0 where
 abbrev pub coded_stored : Coded StoredState
 coded_stored = code_by (State × Cells) (coded× coded_state tree.the_row.coded) (λ s. (s.state, s.cells)) (λ p. record { state = p.0; cells = p.1 }) (λ _. refl)
 
--- the root alone, of number 1, in a tree with these limits; no transaction, and the stamp 1
+-- only the root, of number 1, in a tree with these limits; no transaction, and the stamp 1
 abbrev pub first_base : TreeLimits → Base
 first_base limits = record { tree = tidy (fresh_cells limits); last_txn = 0; last_stamp = 1 }
 
@@ -117,7 +116,7 @@ history s = told s.events
 abbrev pub fate_of : State → ℕ → Option Fate
 fate_of s t = fate posix_calls s.base.last_txn (history s) t
 
--- what the forest tells of a transaction, as its fate
+-- the forest's record of a transaction, as its fate
 abbrev pub fate_in : Option Life → Option Fate
 fate_in None = None
 fate_in (Some LiveState) = Some Live
@@ -148,7 +147,7 @@ has_live s = nat_lt 0 (length (live_transactions s))
 abbrev pub standing_calls : State → List Granted
 standing_calls s = standing posix_calls (history s)
 
--- The tree of a state: what the plain tree holds after the standing calls alone, in the order of
+-- The tree of a state: what the plain tree holds after only the standing calls, in the order of
 -- their stamps, from the base: no locks, no logs, no transactions.
 abbrev pub tree_of : State → PlainTree
 tree_of s = tree_after s.base.tree (standing_calls s)
@@ -173,7 +172,7 @@ has_most_transactions s = nat_le s.limits.transactions (length (begun posix_call
 abbrev pub has_most_calls : State → Bool
 has_most_calls s = nat_le s.limits.calls (length (grants posix_calls (history s))) || nat_le LAST_NUMBER s.last_stamp
 
--- the transaction stands as deep as one may
+-- the transaction is as deep as one may be
 abbrev pub is_deepest : State → ℕ → Bool
 is_deepest s t = nat_le s.limits.depth (depth_of (history s) t)
 
@@ -220,7 +219,7 @@ after_wait s t call = record s { asks = finite.insert s.asks t call }
 abbrev pub after_drop : State → ℕ → State
 after_drop s t = record s { asks = finite.remove s.asks t }
 
--- the call with this stamp is undone; who waits for what stays
+-- the call with this stamp is undone; the pending asks stay
 abbrev pub after_undo : State → ℕ → State
 after_undo s k = record s { events = s.events ++ Undo k ∷ [] }
 
@@ -244,8 +243,8 @@ count_owned s t = length (passing (λ c. is_some_and (owner_of posix_calls (hist
 abbrev pub count_live : State → ℕ → ℕ
 count_live s t = length (passing (over posix_calls (history s) t) (live_transactions s))
 
--- the tree as it stands is the base, and what has happened is forgotten; the
--- last numbers, the rule and the limits stay
+-- the present tree is the base, and what has happened is forgotten; the last numbers, the rule and
+-- the limits stay
 abbrev pub base_now : State → Base
 base_now s = record { tree = tree_of s; last_txn = s.last_txn; last_stamp = s.last_stamp }
 

@@ -22,11 +22,11 @@ use Rattle.ft_core.specs.States.{State, history, fate_of, has_live_child, has_li
 -- Refusals, in their order: NoTxn, Ended, Deep, ChildLive, NothingToUndo or SubSince, NoAsk, Full;
 -- of a checkpoint Live. (Rules of this project.)
 
--- a fault, where a test holds, and else what comes later
+-- a fault, if a test holds, and else what comes later
 abbrev pub fault_if : Bool → Fault → Option Fault → Option Fault
 fault_if test fault later = cond test (Some fault) later
 
--- NoTxn where there is no such transaction, Ended where it is not live, and else what comes later
+-- NoTxn if there is no such transaction, Ended if it is not live, and else what comes later
 abbrev pub fault_of_fate : Option Fate → Option Fault → Option Fault
 fault_of_fate None later = Some NoTxn
 fault_of_fate (Some Live) later = later
@@ -39,7 +39,7 @@ fault_of_target (Found c) = None
 fault_of_target SubSinceTarget = Some SubSince
 fault_of_target Nothing = Some NothingToUndo
 
--- NoAsk where no call is waited for, and else what comes later
+-- NoAsk if no call is waited for, and else what comes later
 abbrev pub fault_of_ask : Option Call → Option Fault → Option Fault
 fault_of_ask None later = Some NoAsk
 fault_of_ask (Some call) later = later
@@ -73,33 +73,33 @@ MayWantMemory (Abort t) = ⊥
 MayWantMemory (Undo t) = ⊥
 MayWantMemory Checkpoint = Unit {0}
 
--- A rule says who blocks a call of a transaction with these accesses, in a state: its base counts
--- too, since two states with the same events may have different trees.
+-- A rule returns the blockers of a call of a transaction with these accesses, in a state: its base
+-- counts too, since two states with the same events may have different trees.
 abbrev pub BlockingRule : Type 0
 BlockingRule = State → ℕ → List Access → List ℕ
 
--- by the rule of the state, in rising order (Moss, the locking rules): who owns a
--- conflicting lock and is neither the asker nor an ancestor of it, and by Moss's own rule
--- each ancestor that holds one too
+-- by the rule of the state, in rising order (Moss, the locking rules): each transaction that owns a
+-- conflicting lock and is neither the asker nor an ancestor of it, and by Moss's own rule also each
+-- ancestor that holds one
 abbrev pub exact_rule : BlockingRule
 exact_rule s t accesses = blockers_by s.rule (history s) t (map as_place accesses)
 
--- A call that t asked for is granted exactly where nobody blocks it (Moss): its stamp is the next,
--- and its reply and accesses are those on the tree of the state. Else the answer names its
--- blockers, and t waits for it.
+-- A call that t asked for is granted exactly if nobody blocks it (Moss): its stamp is the next, and
+-- its reply and accesses are those on the tree of the state. Else the answer names its blockers,
+-- and t waits for it.
 abbrev pub IsAsked : BlockingRule → State → ℕ → Call → Answer → State → Type 0
 IsAsked rule s t call (Granted k reply) s' = (rule s t (accesses_now s call) ≡ []) × (k ≡ next_stamp s) × (reply ≡ reply_of s call) × (s' ≡ after_grant s t call)
 IsAsked rule s t call (Waits blockers) s' = (blockers ≢ []) × (blockers ≡ rule s t (accesses_now s call)) × (s' ≡ after_wait s t call)
 IsAsked rule s t call other s' = ⊥
 
--- the call that an undo takes back, by its stamp
+-- the call that an undo undoes, by its stamp
 abbrev pub IsUndone : State → Target posix_calls → ℕ → State → Type 0
 IsUndone s (Found c) k s' = (k ≡ c.call.stamp) × (s' ≡ after_undo s k)
 IsUndone s SubSinceTarget k s' = ⊥
 IsUndone s Nothing k s' = ⊥
 
--- The answer to a request that nothing refuses but, perhaps, want of
--- memory, with the state after it.
+-- The answer to a request that nothing refuses except, perhaps, lack of memory, with the state
+-- after it.
 abbrev pub IsAnswered : BlockingRule → State → Request → Answer → State → Type 0
 IsAnswered rule s r (Refused fault) s' = (fault ≡ Memory) × MayWantMemory r × (s' ≡ s)
 IsAnswered rule s Begin (Txn t) s' = (t ≡ next_txn s) × (s' ≡ after_begin s None)
@@ -113,7 +113,7 @@ IsAnswered rule s (Undo t) (Undone k) s' = IsUndone s (undo_target posix_calls (
 IsAnswered rule s Checkpoint Cleared s' = s' ≡ after_checkpoint s
 IsAnswered rule s r other s' = ⊥
 
--- A legal step: a refusal stands exactly where its words say, and changes nothing.
+-- A legal step: a refusal occurs exactly when its definition says, and changes nothing.
 abbrev pub IsStep : BlockingRule → State → Request → Answer → State → Type 0
 IsStep rule s r a s' = MatchOption (refusal_of s r) (IsAnswered rule s r a s') (λ fault. (a ≡ Refused fault) × (s' ≡ s))
 
@@ -129,7 +129,7 @@ abbrev pub begin_request : Option ℕ → Request
 begin_request None = Begin
 begin_request (Some t) = Sub t
 
--- What the methods answer, as answers to requests.
+-- The results of the methods, as answers to requests.
 
 -- the answer of a method that can be refused
 abbrev pub answer_with : {A : Type 0} → (A → Answer) → Result A Fault → Answer

@@ -4,6 +4,6 @@ use Rattle.ft_forest.specs.Transactions.{Transactions, IsLiveChild}
 use Rattle.ft_moss.specs.Locks.{LockTable}
 use Rattle.ft_moss.specs.Surveys.{HasItsCellsAlone}
 
--- Where it has no live child, a transaction shares what it has locked with its ancestors alone.
+-- If it has no live child, a transaction shares what it has locked only with its ancestors.
 abbrev pub IsAloneIfChildless : LockTable → Transactions → ℕ → Type 0
 IsAloneIfChildless table forest txn = ((x : ℕ) → IsLiveChild forest txn x → ⊥) → HasItsCellsAlone table forest txn

@@ -1,4 +1,4 @@
--- What a sweep of a core leaves of its tree.
+-- The places of a core's tree that a sweep leaves.
 use Rattle.std.specs.Prelude.{◌≡◌, true, false}
 use Rattle.ft_cells.specs.declared.cell.Cell.{Cell}
 use Rattle.ft_cells.specs.CellOrder.{same_cell}

@@ -1,11 +1,11 @@
--- A list of what takes calls back, put to the cells.
+-- A list of what undoes calls, put to the cells.
 use Rattle.std.specs.Prelude.{List, [], ◌∷◌, map}
 use Rattle.ft_cells.specs.Cells.{Cells}
 use Rattle.ft_posix.specs.Stored.{put_all}
 use Rattle.ft_undo.specs.declared.logs.Logged.{Logged}
 use Rattle.ft_undo.specs.Undone.{given_back, CanGiveAllBack}
 
--- each call is taken back, from the newest on
+-- each call is undone, from the newest on
 abbrev pub taken_back : List Logged → Cells → Cells
 taken_back [] cells = cells
 taken_back (x ∷ xs) cells = taken_back xs (put_all cells (map given_back x.undo))

@@ -21,11 +21,11 @@ use ft_calls::Call;
 use ft_forest::TxnId;
 
 impl Core {
-    /// Makes a call in a transaction, or answers which transactions it waits for: those who own a
-    /// conflicting lock and are neither the asker nor an ancestor of it, and by `Rule::Moss` the
-    /// ancestors that hold one too, in rising order.
+    /// Makes a call in a transaction, or returns which transactions it waits for: those that own a
+    /// conflicting lock and are neither the asker nor an ancestor of it, and by `Rule::Moss` also
+    /// the ancestors that hold one, in rising order.
     ///
-    /// Refuses NoTxn, Ended, and Full where as many calls are granted as may be, in this order.
+    /// Refuses NoTxn, Ended, and Full if as many calls are granted as may be, in this order.
     pub fn ask(&mut self, txn: TxnId, call: Call) -> Result<Outcome, Fault>
         ensures { IsStep exact_rule self.old.state (Ask txn call) (answer_with outcome_answer result) self.new.state }
     {
@@ -34,7 +34,7 @@ impl Core {
     }
 
     /// Makes a call, as `ask` does, and hands out all that was made of it: the call, its reply, a
-    /// copy of that, and its accesses. It is for who keeps a record of what happens.
+    /// copy of that, and its accesses. It is for a caller that keeps a record of what happens.
     ///
     /// Refuses what `ask` refuses, in its order.
     pub fn ask_in_full(&mut self, txn: TxnId, call: Call) -> Result<FullOutcome, Fault>
@@ -65,11 +65,10 @@ impl Core {
         self.request(txn, Some(copy))
     }
 
-    /// Makes the call that a transaction waits for, or answers again which transactions it waits
+    /// Makes the call that a transaction waits for, or returns again which transactions it waits
     /// for.
     ///
-    /// Refuses NoTxn, Ended, NoAsk, and Full where as many calls are granted as may be, in this
-    /// order.
+    /// Refuses NoTxn, Ended, NoAsk, and Full if as many calls are granted as may be, in this order.
     pub fn retry(&mut self, txn: TxnId) -> Result<Outcome, Fault>
         ensures { IsStep exact_rule self.old.state (Retry txn) (answer_with outcome_answer result) self.new.state }
     {
@@ -101,7 +100,7 @@ impl Core {
         Ok(())
     }
 
-    /// Refuses a call more where as many are granted as may be.
+    /// Refuses one more call if as many are granted as may be.
     fn check_calls(&self) -> Result<(), Fault>
         ensures few { OnOk result (has_most_calls self.now.state ≡ false) }
         ensures full { OnErr result (has_most_calls self.now.state ≡ true) }
@@ -113,8 +112,8 @@ impl Core {
         Ok(())
     }
 
-    /// Makes a call where there may be one more, or notes that the transaction waits for it: the
-    /// call that is asked for now, or without one the call that the transaction waits for already.
+    /// Makes a call if there may be one more, or notes that the transaction waits for it: the call
+    /// that is requested now, or without one the call that the transaction waits for already.
     pub(crate) fn request(&mut self, txn: TxnId, asked: Option<Call>) -> Result<Outcome, Fault>
         requires few { has_most_calls self.old.state ≡ false }
         requires live { fate_of self.old.state txn ≡ Some Live }

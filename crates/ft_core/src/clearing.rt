@@ -16,10 +16,10 @@ use ft_undo::Logs;
 use std::alloc::Global;
 
 impl Core {
-    /// Makes the tree as it stands the base, and forgets the transactions and all that has
-    /// happened: limits are the same and count from here, and the next numbers go on.
+    /// Makes the present tree the base, and forgets the transactions and all that has happened:
+    /// limits are the same and count from here, and the next numbers go on.
     ///
-    /// Refuses Live where a transaction is live, and nothing else. Takes no memory.
+    /// Refuses Live if a transaction is live, and nothing else. Takes no memory.
     pub fn checkpoint(&mut self) -> Result<(), Fault>
         ensures step { IsStep exact_rule self.old.state Checkpoint (answer_with (λ done. Cleared) result) self.new.state }
         ensures live { IfErr result (λ fault. fault ≡ LiveFault) }
@@ -41,7 +41,7 @@ impl Core {
         Ok(())
     }
 
-    /// Makes the tree the base, where no transaction is live.
+    /// Makes the tree the base, if no transaction is live.
     fn restart(&mut self)
         requires { refusal_of self.old.state Checkpoint ≡ None }
         ensures { self.new.state ≡ after_checkpoint self.old.state }

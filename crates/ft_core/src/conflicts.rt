@@ -1,19 +1,35 @@
-// Which calls conflict.
-ghost use Rattle.std.specs.Prelude.{◌≡◌};
+// Conflicts of calls.
+ghost use Rattle.std.specs.Prelude.{◌≡◌, ◌&&◌, nat_lt};
 ghost use Rattle.std.specs.List.{list_any};
-ghost use Rattle.ft_cells.specs.CellOrder.{overlap};
-ghost use Rattle.ft_posix.specs.Accesses.{conflict, is_write, some_conflict};
+ghost use Rattle.ft_cells.specs.CellOrder.{cell_number, overlap};
+ghost use Rattle.ft_posix.specs.Accesses.{conflict, is_write};
 
 use ft_calls::Access;
 use ft_cells::Cell;
 use ft_posix::Mode;
 
-/// Whether some access of one list conflicts with some of another: their cells overlap, and one of
-/// them writes.
-pub(crate) fn some_conflict(some: &[Access], others: &[Access]) -> bool
-    ensures { result ≡ some_conflict some.now others.now }
+/// Whether some access of one list conflicts with some of another, on what has a number below the
+/// next one: their cells overlap, and one of them writes.
+pub(crate) fn some_conflict(some: &[Access], others: &[Access], next: u64) -> bool
+    ensures { result ≡ list_any (λ access. nat_lt (cell_number access.cell) next && list_any (conflict access) others.now) some.now }
 {
-    some.iter().any(|access| conflicts_with(access, others))
+    some.iter().any(|access| is_below(&access.cell, next) && conflicts_with(access, others))
+}
+
+/// Whether the number of a cell is below the next one.
+fn is_below(cell: &Cell, next: u64) -> bool
+    ensures { result ≡ nat_lt (cell_number cell.now) next }
+{
+    match cell {
+        Cell::Entry(entry) => entry.dir < next,
+        Cell::Names(number)
+        | Cell::Parent(number)
+        | Cell::Links(number)
+        | Cell::Bytes(number)
+        | Cell::Fd(number)
+        | Cell::DirAttributes(number)
+        | Cell::FileAttributes(number) => *number < next,
+    }
 }
 
 fn conflicts_with(access: &Access, others: &[Access]) -> bool

@@ -18,11 +18,11 @@ use crate::request::FullAbort;
 use ft_forest::TxnId;
 
 impl Core {
-    /// Commits a transaction: its locks and what takes its calls back are its parent's from then
-    /// on; at the top level its locks are let go, and its calls cannot be taken back any more.
-    /// Takes no memory.
+    /// Commits a transaction: its locks and the inverses of its calls are its parent's from then
+    /// on. At the top level its locks are released, and its calls can no longer be undone. Takes no
+    /// memory.
     ///
-    /// Refuses NoTxn, Ended, and ChildLive where it has a live child, in this order.
+    /// Refuses NoTxn, Ended, and ChildLive if it has a live child, in this order.
     pub fn commit(&mut self, txn: TxnId) -> Result<(), Fault>
         ensures { IsStep exact_rule self.old.state (Commit txn) (answer_with (λ done. Committed) result) self.new.state }
     {
@@ -40,8 +40,8 @@ impl Core {
         Ok(())
     }
 
-    /// Aborts a transaction with all that is live below it, and answers how many standing calls it
-    /// takes away. Takes no memory.
+    /// Aborts a transaction with all that is live below it, and returns how many standing calls it
+    /// undoes. Takes no memory.
     ///
     /// Refuses NoTxn and Ended, in this order.
     pub fn abort(&mut self, txn: TxnId) -> Result<u64, Fault>
@@ -53,7 +53,7 @@ impl Core {
         Ok(self.abort_in_full(txn)?.calls)
     }
 
-    /// Aborts a transaction as `abort` does, and answers besides how many transactions it ends.
+    /// Aborts a transaction as `abort` does, and also returns how many transactions it ends.
     pub fn abort_in_full(&mut self, txn: TxnId) -> Result<FullAbort, Fault>
         ensures step { IsStep exact_rule self.old.state (Abort txn) (answer_with (λ abort. Aborted abort.calls) result) self.new.state }
         ensures calls { IfOk result (λ abort. abort.calls ≡ count_standing self.old.state txn) }
@@ -66,8 +66,8 @@ impl Core {
         Ok(self.abort_live(txn))
     }
 
-    /// Takes back what the live transactions at or below a live one have done, each before its
-    /// parent, and ends them.
+    /// Undoes what the live transactions at or below a live one have done, each before its parent,
+    /// and ends them.
     fn abort_live(&mut self, txn: TxnId) -> FullAbort
         requires { fate_of self.old.state txn ≡ Some Live }
         ensures calls { result.calls ≡ count_standing self.old.state txn }
@@ -75,7 +75,8 @@ impl Core {
         ensures ended { self.new.state ≡ after_abort self.old.state txn }
         ensures alone { (before : StateOf) → RanAlone before self.old.state txn → tree_of (after_abort self.old.state txn) ≡ tree_of before }
     {
-        // (no more calls stand than stamps are given, and each transaction has a number of its own)
+        // (no more calls are standing than stamps are given, and each transaction has a number of
+        // its own)
         let mut calls = 0;
         let mut transactions = 0;
         let mut last = txn;
@@ -95,22 +96,22 @@ impl Core {
         }
     }
 
-    /// How many standing calls a transaction owns: its own, and those that came to it when
-    /// subtransactions committed. They can be taken back until it has ended, and no longer if it
+    /// Returns how many standing calls a transaction owns: its own, and those that it got when
+    /// subtransactions committed. They can be undone until it has ended, and no longer if it
     /// commits at the top level.
     ///
-    /// Takes the time of so many.
+    /// Takes time in proportion to that number.
     pub fn count_owned(&self, txn: TxnId) -> u64
         ensures { result ≡ count_owned self.now.state txn }
     {
         self.parts.logs.len(txn.0) as u64
     }
 
-    /// Undoes the last of a transaction's own standing calls, and answers its stamp. It may be one
+    /// Undoes the last of a transaction's own standing calls, and returns its stamp. It may be one
     /// that only looked, as a stat, or that failed. Takes no memory.
     ///
-    /// Refuses NoTxn, Ended, ChildLive, and NothingToUndo where there is none or SubSince where a
-    /// child has committed since, in this order.
+    /// Refuses, in this order, NoTxn, Ended, ChildLive, and then NothingToUndo if there is none or
+    /// SubSince if a child has committed since.
     pub fn undo_call(&mut self, txn: TxnId) -> Result<u64, Fault>
         ensures step { IsStep exact_rule self.old.state (Undo txn) (answer_with Undone result) self.new.state }
 
@@ -128,7 +129,7 @@ impl Core {
         Ok(stamp)
     }
 
-    /// The stamp of the call that an undo takes back: the newest of the transaction's list, unless
+    /// The stamp of the call that an undo would undo: the newest of the transaction's list, unless
     /// a child has committed since.
     fn undo_target(&self, txn: TxnId) -> Result<u64, Fault>
         requires { fate_of self.now.state txn ≡ Some Live }

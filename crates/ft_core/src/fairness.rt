@@ -1,4 +1,4 @@
-// Fair waiting: a call that nobody is in the way of waits behind older asks that conflict with it.
+// Fair waiting: a call that nothing blocks waits behind older asks that conflict with it.
 ghost use Rattle.std.specs.Prelude.{◌≡◌, ◌↔◌, ◌++◌, ◌==◌, ◌<◌, [], true, false, Some, IfOk, IfErr, IfSome, OnOk, OnErr, IsSome, IsTrue, MatchOption, is_some, length, map, position};
 ghost use Rattle.std.specs.List.{list_any};
 ghost use Rattle.std.specs.FinMap as finite;
@@ -9,7 +9,7 @@ ghost use Rattle.ft_core.specs.declared.request.Request.TheVariants.{Ask, Retry}
 ghost use Rattle.ft_core.specs.Fairness.{are_related, fair_rule, holders, holders_of, holds_back, in_front, waits_behind, waits_behind_from};
 ghost use Rattle.ft_core.specs.Journals.{asked_for};
 ghost use Rattle.ft_core.specs.Reports.{as_wait};
-ghost use Rattle.ft_core.specs.States.{accesses_now, after_wait, fate_of, has_most_calls};
+ghost use Rattle.ft_core.specs.States.{accesses_now, after_wait, fate_of, has_most_calls, next_stamp};
 ghost use Rattle.ft_core.specs.Steps.{IsStep, IsAsked, answer_with, outcome_answer};
 
 use crate::conflicts::some_conflict;
@@ -21,7 +21,7 @@ use ft_base::{Memory, Sequence, Table};
 use ft_calls::{Access, Call, accesses};
 use ft_forest::TxnId;
 
-/// A call of a transaction by its accesses, and those that are ahead of it.
+/// A call of a transaction by its accesses, and the transactions that are ahead of it.
 #[derive(Clone, Copy)]
 struct Behind<'a> {
     txn: TxnId,
@@ -31,9 +31,9 @@ struct Behind<'a> {
 
 impl Core {
     /// Makes a call in a transaction as `ask` does, or answers which transactions it waits for, in
-    /// rising order: those for which it would wait by `ask`, and where there is none of these, those
-    /// of `ahead` that hold it back. Such a one waits for a call that conflicts with this one, and is
-    /// neither the asker nor above or below it.
+    /// rising order: those for which it would wait by `ask` and, if there are none, those of
+    /// `ahead` that hold it back. Such a one waits for a call that conflicts with this one on what
+    /// is there already, and is neither the asker nor above or below it.
     ///
     /// Refuses what `ask` refuses, in its order.
     pub fn ask_behind(&mut self, txn: TxnId, call: Call, ahead: &[TxnId]) -> Result<Outcome, Fault>
@@ -43,8 +43,8 @@ impl Core {
         self.request_behind(txn, Some(call), ahead)
     }
 
-    /// Makes the call that a transaction waits for, or answers again which transactions it waits for,
-    /// as `ask_behind` does.
+    /// Makes the call that a transaction waits for, or answers again which transactions it waits
+    /// for, as `ask_behind` does.
     ///
     /// Refuses what `retry` refuses, in its order.
     pub fn retry_behind(&mut self, txn: TxnId, ahead: &[TxnId]) -> Result<Outcome, Fault>
@@ -54,9 +54,9 @@ impl Core {
         self.request_behind(txn, None, ahead)
     }
 
-    /// Each transaction that waits for a call, in rising order, with those that are in the way of it
-    /// now, where it waits behind those that stand in front of it in a queue. One that is not in the
-    /// queue stands behind all of it.
+    /// Returns each transaction that waits for a call, in rising order, with its blockers now, if
+    /// it waits behind those in front of it in a queue. One that is not in the queue is behind all
+    /// of it.
     pub fn pending_behind(&self, queue: &[TxnId]) -> Result<Vec<Pending>, Memory>
         ensures { IfOk result (λ list. map as_wait list.items ≡ waits_behind self.now.state queue.now) }
     {
@@ -65,8 +65,8 @@ impl Core {
         Ok(list)
     }
 
-    /// Those that are in the way of the call that a transaction waits for, in rising order, where it
-    /// waits behind these; none where it waits for no call.
+    /// Returns the blockers of the call that a transaction waits for, in rising order, if it waits
+    /// behind these; none if it waits for no call.
     pub fn blockers_behind(&self, txn: TxnId, ahead: &[TxnId]) -> Result<Vec<TxnId>, Memory>
         ensures { IfOk result (λ blockers. MatchOption (finite.get self.now.state.asks txn) (blockers.items ≡ []) (λ call. blockers.items ≡ fair_rule ahead.now self.now.state txn (accesses_now self.now.state call))) }
     {
@@ -94,7 +94,7 @@ impl Core {
         }
     }
 
-    /// Makes a call where there may be one more, or notes that the transaction waits for it, as
+    /// Makes a call if there may be one more, or notes that the transaction waits for it, as
     /// `request` does, behind others.
     fn request_behind(
         &mut self,
@@ -122,7 +122,7 @@ impl Core {
         Ok(Outcome::Waits { blockers })
     }
 
-    /// Notes that a transaction waits for a call that was asked for now. Without one it waits on.
+    /// Notes that a transaction waits for a call that is requested now. Without one it waits on.
     fn wait_for(&mut self, txn: TxnId, asked: Option<Call>) -> Result<(), Memory>
         requires live { fate_of self.old.state txn ≡ Some Live }
         ensures ok { (call : CallOf) → asked_for asked (finite.get self.old.state.asks txn) ≡ Some call → OnOk result (self.new.state ≡ after_wait self.old.state txn call) }
@@ -132,7 +132,7 @@ impl Core {
         Ok(())
     }
 
-    /// Those in the way of a call that waits behind others, in rising order.
+    /// Returns the blockers of a call that waits behind others, in rising order.
     fn fair_blockers(&self, txn: TxnId, call: &Call, ahead: &[TxnId]) -> Result<Vec<TxnId>, Memory>
         ensures { IfOk result (λ blockers. blockers.items ≡ fair_rule ahead.now self.now.state txn (accesses_now self.now.state call.now)) }
     {
@@ -150,7 +150,7 @@ impl Core {
         Ok(holders)
     }
 
-    /// Those that hold a call back, in rising order.
+    /// Returns the transactions that hold a call back, in rising order.
     fn holders(&self, behind: &Behind<'_>) -> Result<Vec<TxnId>, Memory>
         ensures { IfOk result (λ list. list.items ≡ holders behind.now.ahead.now self.now.state behind.now.txn behind.now.touched.now) }
     {
@@ -169,7 +169,15 @@ impl Core {
             return Ok(false);
         }
         let touched = self.touched(call)?;
-        Ok(some_conflict(touched.as_slice(), behind.touched))
+        let next = self.next_number();
+        Ok(some_conflict(touched.as_slice(), behind.touched, next))
+    }
+
+    /// The number that the next call gives to what it makes.
+    fn next_number(&self) -> u64
+        ensures { result ≡ next_stamp self.now.state }
+    {
+        self.journal.next_stamp()
     }
 
     /// Whether one of two transactions is the other or above it.
@@ -182,7 +190,7 @@ impl Core {
         is_below || is_above
     }
 
-    /// What a call would access now.
+    /// Returns what a call would access now.
     fn touched(&self, call: &Call) -> Result<Vec<Access>, Memory>
         ensures { IfOk result (λ list. list.items ≡ accesses_now self.now.state call.now) }
     {
@@ -192,8 +200,8 @@ impl Core {
     }
 }
 
-/// Lists each of these asks with those that are in the way of it, where each waits behind those in
-/// front of it in a queue.
+/// Lists each of these asks with its blockers, if each waits behind those in front of it in a
+/// queue.
 fn list_behind(
     core: &Core,
     asks: &Table<Call>,
@@ -210,7 +218,7 @@ fn list_behind(
     Ok(())
 }
 
-/// Lists those of these asks that hold a call back.
+/// Lists the transactions, among these asks, that hold a call back.
 fn list_holders(
     core: &Core,
     asks: &Table<Call>,
@@ -236,7 +244,7 @@ fn is_among(list: &[TxnId], txn: TxnId) -> bool
     list.iter().any(|other| *other == txn)
 }
 
-/// Those that stand in front of a transaction in a queue; all of it where it is not in it.
+/// Returns those in front of a transaction in a queue; all of it if the transaction is not in it.
 pub fn in_front<'a>(queue: &'a [TxnId], txn: TxnId) -> &'a [TxnId]
     ensures { result.now ≡ in_front queue.now txn }
 {
@@ -246,7 +254,7 @@ pub fn in_front<'a>(queue: &'a [TxnId], txn: TxnId) -> &'a [TxnId]
     }
 }
 
-/// The place of a transaction in a queue.
+/// Returns the place of a transaction in a queue.
 fn place_in(queue: &[TxnId], txn: TxnId) -> Option<usize>
     ensures place { result ≡ position (λ x. x == txn) queue.now }
     ensures within { IfSome result (λ place. place < length queue.now) }

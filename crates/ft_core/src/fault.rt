@@ -26,7 +26,7 @@ pub enum Fault {
     /// A limit of transactions or calls is reached.
     #[error("Full")]
     Full = 7,
-    /// The transaction stands as deep as one may.
+    /// The transaction is as deep as one may be.
     #[error("Deep")]
     Deep = 8,
     /// A transaction is live.
@@ -35,10 +35,10 @@ pub enum Fault {
     /// The transaction has no pending ask.
     #[error("NoAsk")]
     NoAsk = 10,
-    /// There are no views. No core answers it, but `publish` of one behind a lock (ft_shared).
+    /// There are no views. No core returns it, only `publish` of one behind a lock (ft_shared).
     #[error("NoViews")]
     NoViews = 11,
-    /// A limit is above the greatest. No request answers it, but the making of a core.
+    /// A limit is above the greatest. No request returns it, only the making of a core.
     #[error("BadLimits")]
     BadLimits = 12,
 }

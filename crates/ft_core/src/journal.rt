@@ -27,7 +27,7 @@ pub(crate) struct Terms {
 
 pub(crate) struct Journal {
     terms: Terms,
-    // (no bytes: what has happened is seen by clauses alone)
+    // (no bytes: only clauses see what has happened)
     past: Past,
     asks: Table<Call>,
     subs: PagedTable<Option<u64>>,
@@ -129,7 +129,7 @@ impl Journal {
         self.subs.get(txn.0).flatten()
     }
 
-    /// The last stamp given; where no call was granted yet, the base's last one.
+    /// Returns the last stamp given; if no call was granted yet, the base's last one.
     pub(crate) fn last_stamp(&self) -> u64
         ensures stamp { result ≡ self.now.last_stamp }
         ensures last { result ≤ last_number }
@@ -201,7 +201,7 @@ impl Journal {
         Ok(())
     }
 
-    /// Takes out the call that a transaction waits for, where there is one.
+    /// Takes out the call that a transaction waits for, if there is one.
     fn take_ask(&mut self, txn: TxnId) -> Option<Call>
         ensures taken { result ≡ finite.get self.old.asks txn }
         ensures left { self.new ≡ record self.old { asks = finite.remove self.old.asks txn } }
@@ -235,8 +235,8 @@ impl Journal {
         self.subs.remove(txn.0);
     }
 
-    /// Notes of a live transaction that a child of it commits. Who commits at the top is nobody's
-    /// child.
+    /// Notes of a live transaction that a child of it commits. A transaction that commits at the
+    /// top is nobody's child.
     pub(crate) fn note_sub(&mut self, parent: Option<TxnId>)
         requires { IsNoted self.old parent }
         ensures { self.new ≡ noted_up self.old parent }

@@ -6,15 +6,15 @@ ghost use Rattle.ft_core.specs.Reached.{IsReached};
 
 use crate::manager::Core;
 
-/// The ownership law: of two standing calls that conflict, if the earlier one can still be taken
-/// back then so can the later one, by the same transaction or one below it. So what stays never
-/// rests on what goes.
+/// The ownership law: of two standing calls that conflict, if the earlier one can still be undone
+/// then so can the later one, by the same transaction or one below it. Therefore, what stays never
+/// rests on what is removed.
 pub fn ownership()
     ensures { Ownership posix_calls }
 {}
 
-/// The log-order law: in each transaction's list a call stands in front of every older one with
-/// which it conflicts.
+/// The log-order law: in each transaction's list a call comes before every older one with which it
+/// conflicts.
 pub fn log_order()
     ensures { LogOrder posix_calls }
 {}
@@ -25,8 +25,8 @@ pub fn exact_ledger()
     ensures { ExactLedger posix_calls }
 {}
 
-/// An abort takes back as many calls as stand at or below the transaction, with one inverse each,
-/// in whichever order it goes through their lists.
+/// An abort undoes as many calls as are standing at or below the transaction, with one inverse
+/// each, in whichever order it goes through their lists.
 pub fn abort_count()
     ensures { AbortCount posix_calls }
 {}

@@ -31,7 +31,7 @@ pub use manager::Core;
 pub use reports::{LiveChild, Pending};
 pub use request::{Answer, Event, FullAbort, FullOutcome, Outcome, Request};
 
-/// How many calls may be granted since the base where nobody asks for more.
+/// How many calls may be granted since the base if nobody sets another limit.
 pub const DEFAULT_CALLS: u64 = 1_000_000;
 
 /// The greatest limit of granted calls: 2^62.

@@ -1,4 +1,4 @@
-// What a core allows.
+// The limits of a core.
 ghost use Rattle.std.specs.Prelude.{◌≡◌};
 ghost use Rattle.ft_core.specs.Limits.{default_limits, greatest_limits, are_within, of_tree};
 
@@ -7,14 +7,14 @@ use ft_body::LARGEST_SIZE;
 use ft_forest::{DEFAULT_DEPTH, DEFAULT_TRANSACTIONS, ForestLimits, MOST_TRANSACTIONS};
 use ft_tree::TreeLimits;
 
-/// What a core allows. No request changes it.
+/// The limits of a core. No request changes them.
 #[derive(Clone, Copy, Debug, PartialEq, Eq)]
 pub struct Limits {
     /// How many bytes a file may have.
     pub file_size: u64,
     /// How many entries may name a file.
     pub links: u64,
-    /// How deep a transaction may stand; a top-level one has depth 1.
+    /// How deep a transaction may be; a top-level one has depth 1.
     pub depth: u64,
     /// How many transactions there may be since the base.
     pub transactions: u64,
@@ -62,7 +62,7 @@ impl Limits {
             && self.calls <= most.calls
     }
 
-    /// What they allow of the tree.
+    /// Returns the limits of the tree.
     pub(crate) fn of_tree(&self) -> TreeLimits
         ensures { result ≡ of_tree self.now }
     {
@@ -72,7 +72,7 @@ impl Limits {
         }
     }
 
-    /// What they allow of the transactions.
+    /// Returns the limits of the transactions.
     pub(crate) fn of_forest(&self) -> ForestLimits
         ensures transactions { result.transactions ≡ self.now.transactions }
         ensures depth { result.depth ≡ self.now.depth }

@@ -40,11 +40,11 @@ use std::marker::Model;
 /// A tree with its transactions.
 ///
 /// Clauses see its state: the base, what has happened since, the pending asks and the last numbers.
-/// Its tree is that of its state: what a plain tree holds after the standing calls alone, in the
+/// Its tree is that of its state: what a plain tree holds after only the standing calls, in the
 /// order of their stamps.
 pub struct Core {
     pub(crate) alloc: Global,
-    /// What the hashes of cells and names are mixed with.
+    /// The hashes of cells and names are mixed with it.
     pub(crate) seed: u64,
     pub(crate) journal: Journal,
     pub(crate) parts: Parts,
@@ -79,8 +79,8 @@ impl Model for Core {
 }
 
 impl Core {
-    /// A core over the empty tree: the root alone. Its rule is `Rule::Profile`, and its limits are
-    /// the default ones.
+    /// Returns a core over the empty tree, which is only the root. Its rule is `Rule::Profile`, and
+    /// its limits are the default ones.
     pub fn new(alloc: Global) -> Result<Core, Memory>
         ensures { IfOk result (λ core. core.state ≡ first_state Profile default_limits) }
     {
@@ -94,9 +94,9 @@ impl Core {
         Core::within(alloc, rule, Limits::default())
     }
 
-    /// A core over the empty tree that grants calls by this rule, with these limits.
+    /// Returns a core over the empty tree that grants calls by this rule, with these limits.
     ///
-    /// Refuses BadLimits where one of them is above the greatest, and then want of memory.
+    /// Refuses BadLimits if one of them is above the greatest, and then Memory.
     pub fn with(alloc: Global, rule: Rule, limits: Limits) -> Result<Core, Fault>
         ensures state { IfOk result (λ core. core.state ≡ first_state rule limits) }
         ensures within { OnOk result (are_within limits greatest_limits ≡ true) }
@@ -146,7 +146,7 @@ impl Core {
         self.parts.locks.seed(seed);
     }
 
-    /// Where its memory comes from.
+    /// Returns the allocator of its memory.
     pub fn alloc(&self) -> Global {
         self.alloc
     }
@@ -158,7 +158,7 @@ impl Core {
         self.journal.rule()
     }
 
-    /// What the core allows. It never changes.
+    /// Returns the limits of the core. They never change.
     pub fn limits(&self) -> Limits
         ensures are { result ≡ limits_of self.now.state }
         ensures within { are_within result greatest_limits ≡ true }
@@ -180,7 +180,7 @@ impl Core {
 
     /// Begins a top-level transaction.
     ///
-    /// Refuses Full where there are as many transactions as there may be.
+    /// Refuses Full if there are as many transactions as there may be.
     pub fn begin(&mut self) -> Result<TxnId, Fault>
         ensures { IsStep exact_rule self.old.state Begin (answer_with Txn result) self.new.state }
     {
@@ -206,8 +206,7 @@ impl Core {
 
     /// Begins a subtransaction.
     ///
-    /// Refuses NoTxn, Ended, Deep where the parent stands as deep as one may, and Full, in this
-    /// order.
+    /// Refuses NoTxn, Ended, Deep if the parent is as deep as one may be, and Full, in this order.
     pub fn sub(&mut self, txn: TxnId) -> Result<TxnId, Fault>
         ensures { IsStep exact_rule self.old.state (Sub txn) (answer_with Txn result) self.new.state }
     {
@@ -229,8 +228,9 @@ impl Core {
         Ok(())
     }
 
-    /// The tree. Tidied it is what a plain tree holds after the standing calls alone, each with the
-    /// reply that it got. Where nothing has happened since the base no place in it is of no use.
+    /// Returns the tree. Tidied it is what a plain tree holds after only the standing calls, each
+    /// with the reply that it got. If nothing has happened since the base, no place in it is of no
+    /// use.
     pub fn tree(&self) -> &Tree
         ensures stored { result.now ≡ self.now.cells }
         ensures headline { IsHeadline self.now.state result.now }
@@ -251,15 +251,15 @@ impl Core {
         self.parts.forest.youngest_child(None).is_some()
     }
 
-    /// What has become of a transaction, where there is one of this number since the base.
+    /// Returns the state of a transaction, if there is one of this number since the base.
     pub fn fate(&self, txn: TxnId) -> Option<State>
         ensures { fate_in result ≡ fate_of self.now.state txn }
     {
         self.parts.forest.state(txn)
     }
 
-    /// The parent of a subtransaction; none of a top-level one, nor where there is no transaction
-    /// of this number since the base.
+    /// Returns the parent of a subtransaction; none of a top-level one, nor if there is no
+    /// transaction of this number since the base.
     pub fn parent(&self, txn: TxnId) -> Option<TxnId>
         ensures { result ≡ parent_of posix_calls (history self.now.state) txn }
     {
@@ -278,7 +278,7 @@ impl Core {
         }
     }
 
-    /// Begins a transaction where there may be one more.
+    /// Begins a transaction if there may be one more.
     fn start(&mut self, parent: Option<TxnId>) -> Result<TxnId, Fault>
         requires { refusal_of self.old.state (begin_request parent) ≡ None }
         ensures txn { IfOk result (λ txn. txn ≡ next_txn self.old.state) }
@@ -309,8 +309,8 @@ fn add(forest: &mut Forest, parent: &Option<TxnId>) -> Result<TxnId, ForestFault
     }
 }
 
-/// Makes the places of a transaction that is to begin: in the journal, in the locks and in the logs.
-/// Those that are made stay where memory is wanting; nothing is seen of them.
+/// Makes the places of a transaction that is to begin: in the journal, in the locks and in the
+/// logs. If there is not enough memory, those that are made stay; nothing is seen of them.
 fn open(journal: &mut Journal, locks: &mut Locks, logs: &mut Logs, next: u64) -> Result<(), Memory>
     requires { 0 < next }
     ensures same { AreAsBefore journal.old journal.new locks.old locks.new logs.old logs.new next }

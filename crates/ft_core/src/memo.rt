@@ -1,4 +1,4 @@
-// Where the front of a path leads a transaction that holds the entries on its way.
+// The place to which the front of a path leads a transaction that holds the entries on its way.
 ghost use Rattle.std.specs.Prelude.{◌≡◌, ℕ, true, false, None, Some, IfOk, IfSome};
 ghost use Rattle.std.specs.Option.{option_copied, option_to_list};
 ghost use Rattle.ft_tree.specs.Views.{view_of};
@@ -18,12 +18,12 @@ use ft_path::{FilePath, JudgedPath};
 use ft_tree::{Cell, Cursor, Entry, Front, Node, ROOT, Tree};
 use std::alloc::Global;
 
-/// How many bytes of a path a front has to spare to be worth learning. (That of a shorter one costs
-/// more than it wins.)
+/// The least number of bytes of a path that a front must spare to be worth learning. (That of a
+/// shorter one costs more than it saves.)
 const WORTH: usize = 40;
 
-/// The front of a path whose way a transaction holds locked: a path that goes on behind it begins
-/// where it leads, for this transaction.
+/// The front of a path whose way a transaction holds locked. For this transaction, a path that goes
+/// on after the front begins where it leads.
 #[derive(Drop)]
 pub(crate) struct Memo {
     pub txn: Option<TxnId>,
@@ -99,7 +99,7 @@ impl Memo {
         }
     }
 
-    /// Whether an entry on the way stands in a directory.
+    /// Whether an entry on the way is in a directory.
     fn passes(&self, dir: u64) -> bool
         ensures { result ≡ false → StandElsewhere (front_entries self.now.front) dir }
     {
@@ -109,7 +109,7 @@ impl Memo {
     }
 
     /// Learns where the front of a call's path leads, if it spares enough, and was that of the last
-    /// such call. Where memory is wanting nothing is known.
+    /// such call. If there is not enough memory, nothing is known.
     #[inline(always)]
     pub(crate) fn learn_from(
         &mut self,
@@ -187,7 +187,7 @@ impl Memo {
         }
     }
 
-    /// Learns where a front leads, and answers whether the transaction holds the way there.
+    /// Learns where a front leads, and returns whether the transaction holds the way there.
     fn is_learnt(
         &mut self,
         alloc: Global,
@@ -210,7 +210,7 @@ impl Memo {
         Ok(held == reads.len())
     }
 
-    /// Learns where a front leads, and answers the reads of the entries on its way; none if it does
+    /// Learns where a front leads, and returns the reads of the entries on its way; none if it does
     /// not lead along directories.
     fn learn(
         &mut self,

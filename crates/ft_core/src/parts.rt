@@ -1,4 +1,4 @@
-// The parts of a core: the tree, and what is kept beside it.
+// The parts of a core: the tree, and what is kept alongside it.
 ghost use Rattle.std.specs.Prelude.{◌≡◌, ◌<◌, ◌≤◌, ◌^◌, ◌+◌, ◌∷◌, ℕ, List, [], Some, None, cond, true, false, length, take, map, IfOk, OnOk, OnErr};
 ghost use Rattle.ft_base.specs.Chains.{list_in};
 ghost use Rattle.ft_tree.specs.Sound.{AreSoundCells, IsFree};
@@ -48,7 +48,7 @@ pub(crate) struct Asker {
     pub twice: bool,
 }
 
-/// What is made of a call: its reply, a second time where that is wanted, and its accesses.
+/// The parts that are made of a call: its reply, a second time if that is wanted, and its accesses.
 #[derive(Drop)]
 pub(crate) struct Made {
     pub reply: Reply,
@@ -56,17 +56,17 @@ pub(crate) struct Made {
     pub accesses: Vec<Access>,
 }
 
-/// What has come of a call that was tried.
+/// The result of a call that was tried.
 #[derive(Drop)]
 pub(crate) enum Tried {
     /// It is made, and the asker has its locks.
     Made,
-    /// These are in the way of it, in rising order. Nothing has changed.
+    /// These block it, in rising order. Nothing has changed.
     Blocked(Vec<TxnId>),
 }
 
 impl Made {
-    /// What a call leaves that comes to nothing. Takes no memory.
+    /// Returns the parts of a call that has no effect. Takes no memory.
     pub(crate) fn nothing(alloc: Global) -> Made
         ensures { result.kept ≡ None }
     {
@@ -77,7 +77,7 @@ impl Made {
         }
     }
 
-    /// Writes the reply that a call was told, a second time too if that is wanted.
+    /// Writes the reply that a call got, a second time too if that is wanted.
     fn tell(&mut self, alloc: Global, tree: &Tree, told: &Told, twice: bool) -> Result<(), Memory>
         requires { self.old.kept ≡ None }
         ensures reply { OnOk result (self.new.reply ≡ reply_of tree.now told.now) }
@@ -92,9 +92,9 @@ impl Made {
 }
 
 impl Parts {
-    /// The blockers of a call with these accesses by a rule, and for how many of them, from
-    /// the first on, the asker holds the locks already. Where it has live children they may share
-    /// its cells, and then none is told to be held.
+    /// Returns the blockers of a call with these accesses by a rule, and for how many of them, from
+    /// the first on, the asker holds the locks already. If it has live children they may share its
+    /// cells, and then none is reported as held.
     pub(crate) fn survey(
         &self,
         txn: TxnId,
@@ -114,8 +114,8 @@ impl Parts {
         self.locks.survey(&self.forest, txn, accesses, rule)
     }
 
-    /// The front behind which a call may begin, if one is known for its asker: it has no live
-    /// children, and not all of its accesses are wanted.
+    /// Returns the front after which a call may begin, if one is known for its asker: it has no
+    /// live children, and not all of its accesses are wanted.
     fn front_for<'m>(&self, asker: &Asker, memo: &'m Memo) -> Option<&'m Front>
         requires known { IsTrueOf memo.now self.now.tree self.now.locks }
         requires alone { IsAloneIfChildless self.now.locks self.now.forest asker.now.txn }
@@ -129,8 +129,8 @@ impl Parts {
         memo.front_of(asker.txn)
     }
 
-    /// Makes a call where nobody is in the way of it, and writes into `made` what is made of it. Where
-    /// memory is wanting nothing has changed but that.
+    /// Makes a call if nobody blocks it, and writes into `made` what is made of it. If there is not
+    /// enough memory, nothing has changed except that.
     pub(crate) fn try_call(
         &mut self,
         alloc: Global,
@@ -154,7 +154,7 @@ impl Parts {
         ensures tried { IfOk result (IsTried rule self.old self.new asker.txn asker.stamp call.now made.new) }
         ensures unmade { OnErr result (IsUnmade self.old self.new) }
     {
-        // (they are let go in one place, behind all that may end the call)
+        // (they are released in one place, after all that may end the call)
         let mut edits = Edits::new(alloc);
         self.try_with(alloc, asker, call, rule, &mut edits, memo, made)
     }
@@ -208,8 +208,8 @@ impl Parts {
     }
 
     /// Makes the edits of a call on the tree, gives its asker its locks, of which it holds those of
-    /// so many accesses, from the first on, already, and keeps what takes it back. Where memory is
-    /// wanting nothing has changed.
+    /// so many accesses, from the first on, already, and keeps what undoes it. If there is not
+    /// enough memory, nothing has changed.
     fn make(
         &mut self,
         alloc: Global,
@@ -238,7 +238,7 @@ impl Parts {
         Ok(())
     }
 
-    /// Takes a transaction's list back, from its newest end, and answers how many calls that were.
+    /// Undoes a transaction's list, from its newest end, and returns how many calls that were.
     /// Takes no memory.
     pub(crate) fn take_list(&mut self, txn: TxnId) -> u64
         requires can { CanTakeBack (list_in self.old.logs txn) self.old.tree }
@@ -257,7 +257,7 @@ impl Parts {
         count
     }
 
-    /// Takes the newest call of a transaction's list back, where there is one. Takes no memory.
+    /// Undoes the newest call of a transaction's list, if there is one. Takes no memory.
     pub(crate) fn take_newest(&mut self, txn: TxnId)
         requires { (x : LoggedOf) (xs : List LoggedOf) → list_in self.old.logs txn ≡ x ∷ xs → CanGiveAllBack self.old.tree x.undo }
         ensures others { self.new ≡ record self.old { tree = self.new.tree; logs = self.new.logs } }
@@ -270,8 +270,8 @@ impl Parts {
         }
     }
 
-    /// Gives the parent of a transaction that commits its locks and what takes its calls back;
-    /// without a parent, both are let go. Takes no memory.
+    /// Gives the parent of a transaction that commits its locks and the inverses of its calls.
+    /// Without a parent, the locks are released and the inverses are dropped. Takes no memory.
     pub(crate) fn hand_up(&mut self, txn: TxnId, parent: &Option<TxnId>)
         requires locks { is_opened self.old.locks txn ≡ true }
         requires logs { is_open self.old.logs txn ≡ true }

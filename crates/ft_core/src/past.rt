@@ -1,4 +1,4 @@
-// What has happened, for proofs alone.
+// The past, only for proofs.
 ghost use Rattle.std.specs.Prelude.{◌≡◌, List, []};
 ghost use Rattle.std.specs.Borrow.{ftrue};
 ghost use Rattle.ft_cells.specs.Plain.{PlainTree};
@@ -13,7 +13,7 @@ use ft_tree::Tree;
 use std::marker::Model;
 
 /// The tree from which all began, and what has happened since. It has no bytes, and nothing of it
-/// is kept: clauses alone see it.
+/// is kept: only clauses see it.
 #[derive(Drop)]
 pub(crate) struct Past {
     pub ghost tree: { PlainTree } by { coded_base_tree },
@@ -27,7 +27,7 @@ impl Model for Past {
 // It owns nothing.
 unsafe impl Send for Past {}
 
-/// What happens, but for a granted call.
+/// An event, except a granted call.
 #[derive(Clone, Copy, Drop)]
 pub(crate) enum Turn {
     Begin { txn: TxnId, parent: Option<TxnId> },
@@ -44,7 +44,7 @@ pub(crate) struct Question<'a> {
     pub call: &'a Call,
 }
 
-/// What a call accesses. It has no bytes either: of what the asker holds already not all is noted
+/// The accesses of a call. They have no bytes either: not all that the asker holds already is noted
 /// when the call is looked at.
 #[derive(Drop)]
 pub(crate) struct Seen {

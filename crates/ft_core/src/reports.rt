@@ -1,4 +1,4 @@
-// What a core tells of its locks, of who waits for whom, and of live children.
+// Reports of a core: its locks, which transaction waits for which, and live children.
 ghost use Rattle.std.specs.Prelude.{◌≡◌, ◌<◌, ◌++◌, map, IfOk, OnOk};
 ghost use Rattle.std.specs.FinMap as finite;
 ghost use Rattle.ft_laws.specs.Lists.{Each, Pairs};
@@ -10,14 +10,14 @@ use ft_calls::{Call, accesses};
 use ft_forest::{Forest, TxnId};
 use ft_locks::{LockLine, Survey};
 
-/// A transaction that waits for a call, with those that are in the way of it.
+/// A transaction that waits for a call, with those that block it.
 #[derive(Debug, Drop)]
 pub struct Pending {
     pub txn: TxnId,
     pub blockers: Vec<TxnId>,
 }
 
-/// A live transaction, and a live child of it. They stand in the order of parents, and then of
+/// A live transaction, and a live child of it. They are in the order of parents, and then of
 /// children.
 #[derive(Clone, Copy, Debug, PartialEq, Eq, PartialOrd, Ord)]
 pub struct LiveChild {
@@ -33,8 +33,8 @@ impl Core {
         self.parts.locks.lines()
     }
 
-    /// Each transaction that waits for a call, in rising order, with those that are in the way of
-    /// it now. There may be none any more: then a retry makes the call.
+    /// Returns each transaction that waits for a call, in rising order, with those that block it
+    /// now. There may be none any more: then a retry makes the call.
     pub fn pending(&self) -> Result<Vec<Pending>, Memory>
         ensures list { IfOk result (λ list. map as_wait list.items ≡ waits self.now.state) }
         ensures rising { IfOk result (λ list. Each HasRisingBlockers list.items) }
@@ -56,7 +56,7 @@ impl Core {
         Ok(list)
     }
 
-    /// The transactions in the way of a call now, in rising order.
+    /// Returns the transactions that block a call now, in rising order.
     pub(crate) fn blockers_now(&self, txn: TxnId, call: &Call) -> Result<Vec<TxnId>, Memory>
         ensures blockers { IfOk result (λ blockers. blockers.items ≡ blockers_now self.now.state txn call.now) }
         ensures rising { IfOk result (λ blockers. Pairs (λ x y. x < y) blockers.items) }
@@ -69,7 +69,7 @@ impl Core {
     }
 }
 
-/// Lists each of these asks with those that are in the way of it.
+/// Lists each of these asks with those that block it.
 fn list_pending(core: &Core, asks: &Table<Call>, list: &mut Vec<Pending>) -> Result<(), Memory>
     ensures rising { OnOk result (Each HasRisingBlockers list.old.items → Each HasRisingBlockers list.new.items) }
     ensures list { OnOk result (map as_wait list.new.items ≡ map as_wait list.old.items ++ waits_from core.now.state (finite.entries asks.now)) }

@@ -1,11 +1,11 @@
-// What is asked of a core, what it answers, and what has happened.
+// Requests to a core, their answers, and events.
 
 use crate::fault::Fault;
 use ft_base::Sequence;
 use ft_calls::{Access, Call, Reply};
 use ft_forest::TxnId;
 
-/// What a core is asked to do.
+/// A request to a core.
 #[derive(Debug, PartialEq, Eq, Drop)]
 pub enum Request {
     /// Begins a top-level transaction.
@@ -24,11 +24,11 @@ pub enum Request {
     Abort(TxnId),
     /// Undoes the last of a transaction's own standing calls.
     Undo(TxnId),
-    /// Makes the tree as it stands the base, and forgets what has happened.
+    /// Makes the present tree the base, and forgets what has happened.
     Checkpoint,
 }
 
-/// What a core answers.
+/// The answer of a core to a request.
 #[derive(Debug, PartialEq, Eq, Drop)]
 pub enum Answer {
     /// A transaction was begun.
@@ -51,7 +51,7 @@ pub enum Answer {
     Refused(Fault),
 }
 
-/// What became of a call that was asked for.
+/// The outcome of a call that was requested.
 #[derive(Debug, PartialEq, Eq, Drop)]
 pub enum Outcome {
     /// It was granted, with its stamp, and made.
@@ -60,7 +60,7 @@ pub enum Outcome {
     Waits { blockers: Sequence<TxnId> },
 }
 
-/// What became of a call that was asked for, with all that was made of it.
+/// The outcome of a call that was requested, with all that was made of it.
 #[derive(Drop)]
 pub enum FullOutcome {
     /// It was granted, with its stamp, and made: the call, its reply, a copy of the reply, and the
@@ -78,7 +78,7 @@ pub enum FullOutcome {
     },
 }
 
-/// What an abort has ended.
+/// The counts of an abort.
 #[derive(Clone, Copy, Debug, PartialEq, Eq)]
 pub struct FullAbort {
     /// How many transactions: all that were live at or below the one that was to be aborted.
@@ -87,7 +87,7 @@ pub struct FullAbort {
     pub calls: u64,
 }
 
-/// What has happened.
+/// A thing that has happened.
 #[derive(Debug, PartialEq, Eq, Drop)]
 pub enum Event {
     /// A transaction was begun.

@@ -10,9 +10,10 @@ use crate::request::{Answer, Outcome, Request};
 use ft_base::Memory;
 
 impl Core {
-    /// Carries requests out, in order, and answers each.
+    /// Carries requests out, in order, and returns the answer to each.
     ///
-    /// Want of memory for the answers is refused before the first request, with nothing changed.
+    /// If there is no memory for the answers, that is refused before the first request, with
+    /// nothing changed.
     pub fn run(&mut self, requests: Vec<Request>) -> Result<Vec<Answer>, Memory>
         ensures ok { IfOk result (λ answers. IsRun exact_rule self.old.state requests.items answers.items self.new.state) }
         ensures err { OnErr result (self.new ≡ self.old) }

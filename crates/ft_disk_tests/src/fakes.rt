@@ -1,5 +1,5 @@
 // A tree of directories in memory: one that is read, and one that is made. Each has so many turns:
-// a call takes one, and where none is left it fails.
+// a call takes one, and if none is left it fails.
 use ft_cells::{Attributes, Kind, Timestamp};
 use ft_copy::{
     FileFacts, FileId, Found, FoundFile, FoundFolder, Given, Leading, Listed, Listing, Opened,
@@ -13,8 +13,8 @@ use std::time::{Clock, Duration};
 
 // ---- what stands where
 
-/// What stands at a path. A directory and a file have the default attributes, and a file no time,
-/// where nothing else is said.
+/// The thing at a path. A directory and a file have the default attributes, and a file no time, if
+/// nothing else is given.
 #[derive(Clone, Copy)]
 pub enum Held<'a> {
     Folder,
@@ -26,15 +26,15 @@ pub enum Held<'a> {
     Given(u64, &'a [u8], Given),
     /// A symbolic link: its number, how many names it has, and where it leads.
     Symlink(u64, u64, &'a [u8]),
-    /// What a tree has no place for.
+    /// A thing that a tree has no place for.
     Special,
 }
 
-/// A path, and what stands there.
+/// A path, and what is there.
 pub type Row<'a> = (&'a [u8], Held<'a>);
 
 impl<'a> Held<'a> {
-    // Its attributes, where it is a directory.
+    // Its attributes, if it is a directory.
     fn folder(self) -> Option<Attributes> {
         match self {
             Held::Folder => Some(Attributes::of(Kind::Dir)),
@@ -43,7 +43,7 @@ impl<'a> Held<'a> {
         }
     }
 
-    // Its number, the count of its names, its bytes and what it is given, where it is a file.
+    // Its number, the count of its names, its bytes and what it is given, if it is a file.
     fn file(self) -> Option<(u64, u64, &'a [u8], Given)> {
         let given = Given {
             attributes: Attributes::of(Kind::File),
@@ -57,7 +57,7 @@ impl<'a> Held<'a> {
     }
 }
 
-// What stands at a path, where something does: at the root a directory, where no row tells of it.
+// The thing at a path, if there is one: at the root a directory, if no row is there.
 fn held_at<'a>(rows: &[Row<'a>], path: &[u8]) -> Option<Held<'a>> {
     match rows.iter().find(|row| row.0 == path) {
         Some(row) => Some(row.1),
@@ -66,7 +66,7 @@ fn held_at<'a>(rows: &[Row<'a>], path: &[u8]) -> Option<Held<'a>> {
     }
 }
 
-// The name that leads from a directory to a path, where it is one name.
+// The name that leads from a directory to a path, if it is one name.
 fn name_in<'a>(folder: &[u8], path: &'a [u8]) -> Option<&'a [u8]> {
     let name = path.strip_prefix(folder)?.strip_prefix(b"/".as_slice())?;
     if name.contains(&b'/') {
@@ -77,13 +77,13 @@ fn name_in<'a>(folder: &[u8], path: &'a [u8]) -> Option<&'a [u8]> {
 
 // ---- a tree that is read
 
-/// A tree of these rows. The names of a directory are told from the last to the first.
+/// A tree of these rows. The names of a directory are listed from the last to the first.
 #[derive(Drop)]
 pub struct FakeSource<'a> {
     pub alloc: Global,
     pub rows: &'a [Row<'a>],
-    /// What stands at these paths when it is listed, opened or read, though that of the rows above
-    /// was found there.
+    /// The things at these paths when they are listed, opened or read, though those of the rows
+    /// above were found there.
     pub meanwhile: &'a [Row<'a>],
     /// The path at which what a tree has no place for is left out.
     pub skipped: &'a [u8],
@@ -112,7 +112,7 @@ fn take_turn(turns: &Cell<u64>) -> Result<(), Trouble> {
     Ok(())
 }
 
-// What is known of a file, or of a symbolic link.
+// The facts of a file, or of a symbolic link.
 fn facts_of(number: u64, links: u64, bytes: &[u8]) -> FileFacts {
     FileFacts {
         id: FileId { device: 1, number },
@@ -121,12 +121,12 @@ fn facts_of(number: u64, links: u64, bytes: &[u8]) -> FileFacts {
     }
 }
 
-// What tells a directory from the one that comes in its place.
+// What distinguishes a directory from the one that comes in its place.
 fn folder_id(number: u64) -> FileId {
     FileId { device: 2, number }
 }
 
-// What stands at a path, as it is found.
+// The thing at a path, as it is found.
 fn found_as(held: Held<'_>) -> Result<Found, Trouble> {
     if let Some(attributes) = held.folder() {
         let id = folder_id(FIRST);
@@ -144,7 +144,7 @@ fn found_as(held: Held<'_>) -> Result<Found, Trouble> {
 }
 
 impl<'a> FakeSource<'a> {
-    // What is listed, opened or read at a path.
+    // The thing that is listed, opened or read at a path.
     fn held_now(&self, path: &[u8]) -> Result<Held<'a>, Trouble> {
         take_turn(self.turns)?;
         match self.meanwhile.iter().find(|row| row.0 == path) {
@@ -153,7 +153,7 @@ impl<'a> FakeSource<'a> {
         }
     }
 
-    // Whether another thing stands there by then.
+    // Whether another thing is there by then.
     fn is_other(&self, path: &[u8]) -> bool {
         self.meanwhile.iter().any(|row| row.0 == path)
     }
@@ -270,8 +270,8 @@ impl FakeTarget {
         self.made.is_empty() && self.files.is_empty()
     }
 
-    /// Whether the tree is whole and has just these rows, made in this order. The first may be that
-    /// of the root, which else has the default attributes.
+    /// Whether the tree is whole and has exactly these rows, made in this order. The first may be
+    /// that of the root, which else has the default attributes.
     pub fn holds(&self, rows: &[Row<'_>]) -> bool {
         let (root, rows) = match rows.split_first() {
             Some((row, rows)) if row.0.is_empty() => (row.1.folder(), rows),
@@ -326,7 +326,7 @@ impl FakeTarget {
         self.made.iter().find(|made| made.path.as_slice() == path)
     }
 
-    // Makes something in a directory, where its name is free, and takes a turn.
+    // Makes something in a directory, if its name is free, and takes a turn.
     fn put(&mut self, path: &[u8], what: What) -> Result<(), Trouble> {
         let is_in_folder = self.made.iter().any(|made| matches!(made.what, What::Folder(_))
             && name_in(made.path.as_slice(), path).is_some());
@@ -338,7 +338,7 @@ impl FakeTarget {
         self.take_turn()
     }
 
-    // Adds a file or a symbolic link of these bytes, and answers its number.
+    // Adds a file or a symbolic link of these bytes, and returns its number.
     fn add(&mut self, bytes: Vec<u8>, attributes: Attributes) -> Result<usize, Trouble> {
         let number = self.files.len();
         self.files.push(bytes)?;

@@ -1,5 +1,5 @@
-// What no clause says: that a load comes to its end, its text as it stands in a script, and which
-// fault comes where.
+// No clause states this: that a load comes to its end, its text in a script, and which fault comes
+// at which place.
 use crate::fakes::{FakeSource, Held, Row};
 use ft_cells::{Attributes, Timestamp};
 use ft_copy::{Given, Stopped, Trouble};
@@ -13,7 +13,7 @@ use std::test::Fail;
 const ALL: u64 = 1_000_000;
 
 /// An empty directory, an empty file, a file of two names, and bytes that are no text. As a path
-/// `/a-` comes before what stands in `/a`, and as a name behind.
+/// `/a-` comes before what is in `/a`, and as a name after it.
 pub const TREE: &[Row<'static>] = &[
     (b"/%", Held::File(0, 2, b"a b")),
     (b"/a", Held::Folder),
@@ -27,8 +27,8 @@ pub const TREE: &[Row<'static>] = &[
 pub const SCRIPT: &str =
     "begin\n1 open wcx /%25\n1 write 2 a%20b\n1 close 2\n1 mkdir /a\n1 mkdir /a/empty\n1 open wcx /a/nothing\n1 close 7\n1 open wcx /a-\n1 write 9 %00%FF\n1 close 9\n1 link /%25 /b%FF\ncommit 1\n";
 
-/// Symbolic links out of the tree, to themselves and to nowhere, one of two names, and one that would
-/// stand before the directory to which it leads. They come behind all else.
+/// Symbolic links out of the tree, to themselves and to nowhere, one of two names, and one that
+/// would come before the directory to which it leads. They come after all else.
 pub const WITH_LINKS: &[Row<'static>] = &[
     (b"/d", Held::Folder),
     (b"/d/f", Held::File(0, 1, b"x")),
@@ -121,7 +121,7 @@ const CALLS: u64 = 18;
 
 const CALLS_WITH_LINKS: u64 = 19;
 
-// Loads a tree in so many turns, and puts its script behind a text.
+// Loads a tree in so many turns, and puts its script after a text.
 fn load_in(
     alloc: Global,
     (rows, skipped): (&[Row<'_>], &[u8]),
@@ -184,7 +184,7 @@ const FOUND: &[Row<'static>] = &[
     (b"/l", Held::Symlink(1, 1, b"inside")),
 ];
 
-// What comes in the place of each of them before it is listed, opened or read.
+// The things that come in the place of each of them before it is listed, opened or read.
 const MEANWHILE: &[Row<'static>] = &[
     (b"", Held::Folder),
     (b"/d", Held::Folder),
@@ -196,7 +196,7 @@ const MEANWHILE: &[Row<'static>] = &[
     (b"/l", Held::File(9, 1, b"outside")),
 ];
 
-// Loads the tree in which this comes in the place of what was found, and puts its script behind a
+// Loads the tree in which this comes in the place of what was found, and puts its script after a
 // text.
 fn load_amid(alloc: Global, meanwhile: &[Row<'_>], text: &mut Vec<u8>) -> Result<(), Stopped> {
     let turns = Cell::new(ALL);
@@ -267,15 +267,15 @@ fn modes_owners_and_times_as_script(rt: HostRuntime) -> Result<(), Fail> {
     Ok(())
 }
 
-/// What a tree has no place for, amid directories.
+/// A thing that a tree has no place for, amid directories.
 pub const WITH_SPECIAL: &[Row<'static>] = &[
     (b"/dev", Held::Folder),
     (b"/dev/s y", Held::Special),
     (b"/z", Held::Folder),
 ];
 
-// Whether what a tree has no place for is refused by its path, and left out where that is asked for
-// at its path.
+// Whether what a tree has no place for is refused by its path, and left out if that is asked for at
+// its path.
 fn is_refused_or_left_out(alloc: Global) -> bool {
     let special = (Trouble::Special, b"/dev/s y".as_slice());
     stops(alloc, (WITH_SPECIAL, b"/z".as_slice()), ALL, special)
@@ -335,7 +335,7 @@ fn limits_of_files(rt: HostRuntime) -> Result<(), Fail> {
     Ok(())
 }
 
-// Whether the script of a file of so many bytes begins so, where as much may be needed.
+// Whether the script of a file of so many bytes begins so, if as much may be needed.
 fn begins_with(alloc: Global, size: usize, most: Limits, line: &str) -> Result<bool, Fail> {
     let bytes = vec![in alloc; b'x'; size]?;
     let rows = [(b"/f".as_slice(), Held::File(0, 1, bytes.as_slice()))];

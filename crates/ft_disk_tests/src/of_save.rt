@@ -1,4 +1,4 @@
-// What no clause says: that a save comes to its end, and what is left where it does not.
+// No clause states this: that a save comes to its end, and what is left if it does not.
 use crate::fakes::{FakeTarget, Held, Row};
 use crate::of_load::{
     SCRIPT, SCRIPT_WITH_ATTRIBUTES, SCRIPT_WITH_LINKS, TREE, WITH_ATTRIBUTES, WITH_LINKS,
@@ -42,7 +42,7 @@ const CALLS: u64 = 9;
 
 const LINK_CALLS: u64 = 12;
 
-/// What may be saved where nobody asks for more, with set-id bits or without.
+/// The limits of a save if nobody asks for more, with set-id bits or without.
 pub fn default_limits(set_id: bool) -> CopyLimits {
     let TreeLimits { file_size, links } = TreeLimits::default();
     CopyLimits {
@@ -110,7 +110,7 @@ fn rows_that_are_none(rt: HostRuntime) -> Result<(), Fail> {
     Ok(())
 }
 
-// Why a save in so many turns is not made, where that leaves nothing.
+// Why a save in so many turns is not made, if that leaves nothing.
 fn stopped_by(alloc: Global, replies: &[u8], turns: u64) -> Option<SaveFault> {
     let mut reader = replies;
     let mut target = FakeTarget::new(alloc, turns);
@@ -163,7 +163,7 @@ fn no_line_that_is_cut(rt: HostRuntime) -> Result<(), Fail> {
     Ok(())
 }
 
-// Whether the report with which replies end tells of no tree.
+// Whether the report with which replies end describes no tree.
 fn is_bad_tree(alloc: Global, replies: &str) -> bool {
     leaves_nothing(alloc, replies.as_bytes(), ALL, Trouble::BadTree)
 }
@@ -201,7 +201,7 @@ fn links_of_no_tree(rt: HostRuntime) -> Result<(), Fail> {
     Ok(())
 }
 
-// The report of a symbolic link that leads where this is coded.
+// The report of a symbolic link that leads to the place which this codes.
 fn report_of_link(alloc: Global, to: &str) -> Result<String, Fail> {
     Ok(format!(in alloc; "tree 3\ndir 1\nedge 1 l 2\nlink 2{to}\n")?)
 }
@@ -246,7 +246,7 @@ fn names_that_lead_elsewhere(rt: HostRuntime) -> Result<(), Fail> {
     Ok(())
 }
 
-// Whether a report of a file of so many bytes is saved, where a file may have as many as this.
+// Whether a report of a file of so many bytes is saved, if a file may have as many as this.
 fn is_saved_within(alloc: Global, size: usize, file_size: u64) -> Result<bool, Fail> {
     let bytes = vec![in alloc; b'x'; size]?;
     let head = format!(in alloc; "tree 3\ndir 1\nedge 1 f 2\nfile 2 {size} ")?;
@@ -293,7 +293,7 @@ fn target_that_fails(rt: HostRuntime) -> Result<(), Fail> {
     Ok(())
 }
 
-// What is written when the script of a load is played, and then asked for the tree.
+// The replies when the script of a load is played, and then asked for the tree.
 fn replies_to_load(alloc: Global, script: &str) -> Result<Vec<u8>, Fail> {
     let script = format!(in alloc; "{script}tree\n")?;
     let mut core = Core::new(alloc)?;

@@ -1,4 +1,5 @@
-// What a screen gets while a tree is loaded or saved. (The line that tells of a fault: hostile/round.)
+// The output on a screen while a tree is loaded or saved. (The line that reports a fault:
+// hostile/round.)
 use crate::fakes::{FakeClock, FakeSource, FakeTarget, Row};
 use crate::of_load::{TREE, WITH_SPECIAL};
 use crate::of_save::{REPLIES, default_limits};

@@ -36,7 +36,7 @@ abbrev pub verdict_text : Verdict → List ℕ
 verdict_text (Cycle members) = flat_map member_text members
 verdict_text (Ranked ranks) = flat_map rank_text ranks
 
--- the lines of a report, which stand between the braces; none where there is no report
+-- the lines of a report, which are between the braces; none if there is no report
 abbrev pub report_text : Option Report → List ℕ
 report_text None = []
 report_text (Some report) = verdict_text report.verdict ++ flat_map edge_text report.edges

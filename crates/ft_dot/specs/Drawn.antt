@@ -1,5 +1,5 @@
--- What a filter reads and writes that draws the last report. `left` is what the reader has left,
--- before and after, and `held` what the writer holds.
+-- A filter that draws the last report, and what it reads and writes. `left` is what the reader has
+-- left, before and after, and `held` what the writer holds.
 use Rattle.std.specs.Prelude.{ℕ, List, Option}
 use Rattle.std.specs.Io.KnownBytes.{Appends, Consumes, IsAtEnd, Keeps}
 use Rattle.ft_script.specs.declared.playing.PlayFault.{PlayFault}
@@ -21,8 +21,7 @@ ReadsSome left left_after held held_after = (bytes : List ℕ) × Consumes left 
 abbrev pub DrawsPart : Option (List ℕ) → Option (List ℕ) → Option (List ℕ) → Option (List ℕ) → Type 0
 DrawsPart left left_after held held_after = (bytes : List ℕ) × Consumes left left_after bytes × IsAtEnd left_after × WritesPart held held_after (dot_of (lines_of bytes))
 
--- What a fault leaves: `ReadsSome` at Memory and Read, `DrawsPart` at Write. No other fault
--- comes.
+-- A fault leaves `ReadsSome` at Memory and Read, `DrawsPart` at Write. No other fault comes.
 abbrev pub StopsDrawing : PlayFault → Option (List ℕ) → Option (List ℕ) → Option (List ℕ) → Option (List ℕ) → Type 0
 StopsDrawing Memory left left_after held held_after = ReadsSome left left_after held held_after
 StopsDrawing Read left left_after held held_after = ReadsSome left left_after held held_after

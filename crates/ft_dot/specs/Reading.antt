@@ -1,5 +1,5 @@
--- How a report of who waits for whom is read from the lines of replies, and which one is the
--- last. (The format of replies is this project's own: docs/SCRIPT.md.)
+-- How a report of which transaction waits for which is read from the lines of replies, and which
+-- one is the last. (The format of replies is this project's own: docs/SCRIPT.md.)
 use Rattle.std.specs.Prelude.{◌==◌, ℕ, zero, suc, List, [], ◌∷◌, codes, if◌then◌else◌, Option, None, Some, option_and_then, option_map}
 use Rattle.std.specs.Str.{bytes_eq}
 use Rattle.ft_waits.specs.declared.edge.Edge.{Edge}
@@ -13,17 +13,17 @@ use Rattle.ft_dot.specs.declared.report.Report.{Report}
 
 -- ---- the words of a line
 
--- the words behind this one, where the line begins with it
+-- the words after this one, if the line begins with it
 abbrev pub behind : List ℕ → List (List ℕ) → Option (List (List ℕ))
 behind word [] = None
 behind word (first ∷ others) = if bytes_eq first word then Some others else None
 
--- what a reader reads from each, where it reads them all
+-- the results of a reader for each, if it reads them all
 abbrev pub each : {A B : Type 0} → (A → Option B) → List A → Option (List B)
 each read [] = Some []
 each read (x ∷ xs) = option_and_then (λ y. option_map (λ ys. y ∷ ys) (each read xs)) (read x)
 
--- what stands before the first place of a byte, and what stands after it
+-- what is before the first place of a byte, and what is after it
 abbrev pub cut_at : ℕ → List ℕ → Option (List ℕ × List ℕ)
 cut_at byte [] = None
 cut_at byte (b ∷ bs) = if b == byte then Some ([], bs) else option_map (λ parts. (b ∷ parts.0, parts.1)) (cut_at byte bs)
@@ -73,7 +73,7 @@ report_of (suc count) (line ∷ lines) = option_and_then (λ edge. option_map (w
 abbrev pub report_at : List ℕ → List (List ℕ) → Option Report
 report_at line lines = option_and_then (λ count. report_of count lines) (count_of (words_of line))
 
--- the second of two reports, or the first where there is no second
+-- the second of two reports, or the first if there is no second
 abbrev pub later : Option Report → Option Report → Option Report
 later report None = report
 later report (Some other) = Some other

@@ -8,7 +8,7 @@ use ft_core::TxnId;
 use ft_waits::{Edge, EdgeKind, Verdict};
 use std::fmt;
 
-/// A report as a digraph in the DOT language, or an empty one where there is none.
+/// A report as a digraph in the DOT language, or an empty one if there is none.
 #[derive(Clone, Copy)]
 pub struct Digraph<'a>(pub Option<&'a Report>);
 

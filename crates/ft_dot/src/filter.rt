@@ -14,15 +14,15 @@ use std::alloc::Global;
 use std::io;
 use std::io::{ErrorKind, Read, Write};
 
-/// Reads replies, as `play` writes them, to their end, and writes the last report among them on who
-/// waits for whom as a digraph in the DOT language; where there is none, an empty digraph.
+/// Reads replies, as `play` writes them, to their end, and writes the last report among them of
+/// which transaction waits for which as a digraph in the DOT language; if there is none, an empty
+/// digraph.
 ///
 /// Each transaction of a cycle is red, any other has its rank in its label. An edge for a lock is
 /// drawn whole, and one to a child in dashes. Lines may have any bytes and any length.
 ///
 /// A fault is one of these.
-/// - Memory: there was none for the replies, the report or its drawing, of which nothing was
-///   written.
+/// - Memory: there was none for the replies, the report or its drawing. Nothing was written.
 /// - Read: a read failed. Nothing was written. An interrupted read is tried again.
 /// - Write: a write failed, was interrupted or took nothing. A part of the drawing was written.
 pub fn draw<R: Read, W: Write>(

@@ -1,4 +1,5 @@
-//! Drawings of who waits for whom: the last report among replies, in the DOT language.
+//! Drawings of which transaction waits for which: the last report among replies, in the DOT
+//! language.
 #![tactic(auto)]
 
 mod drawing;

@@ -11,10 +11,10 @@ use ft_waits::{Edge, EdgeKind, Verdict};
 use ft_words::{Lines, Words, number_of, split_once};
 use std::alloc::{AllocError, Global};
 
-/// The last report among the lines of replies.
+/// Returns the last report among the lines of replies.
 ///
 /// A report is a line `edges N`, N lines `edge FROM TO KIND`, and a line `cycle A B ..` or `ranks
-/// T:RANK ..`. Lines that begin as a report and do not end as one are none. Fails only for want of
+/// T:RANK ..`. Lines that begin as a report and do not end as one are none. Fails only for lack of
 /// memory.
 pub fn last_report(alloc: Global, lines: Lines<'_>) -> Result<Option<Report>, Memory>
     ensures { IfOk result (λ report. report ≡ last_report lines.entry) }
@@ -57,7 +57,7 @@ fn report_in(alloc: Global, count: u64, lines: Lines<'_>) -> Result<Option<Repor
     }))
 }
 
-// The count of edges that a line tells.
+// The count of edges on a line.
 fn count_in(line: &[u8]) -> Option<u64>
     ensures { result ≡ count_of (words_of line.now) }
 {
@@ -68,7 +68,7 @@ fn count_in(line: &[u8]) -> Option<u64>
     number_of(words.only()?)
 }
 
-// The edge that a line tells.
+// The edge on a line.
 fn edge_in(line: &[u8]) -> Option<Edge>
     ensures { result ≡ edge_of (words_of line.now) }
 {
@@ -95,7 +95,7 @@ fn kind_of(word: &[u8]) -> Option<EdgeKind>
     }
 }
 
-// The verdict that a line tells.
+// The verdict on a line.
 fn verdict_in(alloc: Global, line: &[u8]) -> Result<Option<Verdict>, AllocError>
     ensures { IfOk result (λ verdict. verdict ≡ verdict_of (words_of line.now)) }
 {

@@ -1,8 +1,8 @@
-// A report of who waits for whom.
+// A report of which transaction waits for which.
 use ft_base::Sequence;
 use ft_waits::{Edge, Verdict};
 
-/// A report of who waits for whom: the waits-for edges, and what they come to.
+/// A report of which transaction waits for which: the waits-for edges, and their verdict.
 #[derive(Debug, PartialEq, Eq, Drop)]
 pub struct Report {
     pub edges: Sequence<Edge>,

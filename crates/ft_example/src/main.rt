@@ -1,5 +1,5 @@
-//! An example of the crates in use: one job with two steps, of which the first fails and leaves
-//! nothing behind.
+//! An example of the crates in use: one job with two steps. The first step fails and leaves
+//! nothing.
 #![tactic(auto)]
 
 mod steps;
@@ -24,7 +24,7 @@ fn tell_of_job(rt: &HostRuntime, core: &mut Core) -> Result<()> {
     Ok(())
 }
 
-/// Runs the job, and answers how many calls of its first step were taken back.
+/// Runs the job, and returns how many calls of its first step were undone.
 fn run_job(alloc: Global, core: &mut Core) -> Result<u64> {
     let job = core.begin()?;
     let calls = fail_step(alloc, core, job)?;
@@ -35,7 +35,7 @@ fn run_job(alloc: Global, core: &mut Core) -> Result<u64> {
     Ok(calls)
 }
 
-/// A step that makes a file and then fails: how many calls were taken back.
+/// A step that makes a file and then fails: how many calls were undone.
 fn fail_step(alloc: Global, core: &mut Core, job: TxnId) -> Result<u64> {
     let step = core.sub(job)?;
     make_file(alloc, core, step, b"/half", b"not all of it")?;

@@ -32,7 +32,7 @@ pub fn make_file(
     Ok(())
 }
 
-// Makes a call, and answers its reply. Nobody else is there for whom it could have to wait.
+// Makes a call, and returns its reply. Nobody else is there for whom it could have to wait.
 fn granted(core: &mut Core, txn: TxnId, call: Call) -> Result<Reply> {
     match core.ask(txn, call)? {
         Outcome::Granted { reply, .. } => Ok(reply),

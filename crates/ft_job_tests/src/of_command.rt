@@ -1,27 +1,27 @@
-// What no clause says: which words the crate that reads them takes, and its texts.
+// No clause states which words the crate that reads them takes, nor its texts.
 use ft_command::{Choice, choose};
 use ft_core::{Limits, Rule};
 use std::alloc::Global;
 use std::test::Fail;
 
-// Whether these words ask for nothing that there is, and the text that says so has this part.
+// Whether these words are not valid, and the text that says so has this part.
 fn is_usage(alloc: Global, words: &[&str], part: &str) -> bool {
     let choice = choose(alloc, words);
     matches!(&choice, Choice::Usage(text) if text.as_str().contains(part))
 }
 
-// Whether they ask for help, and its text has this part.
+// Whether they request help, and its text has this part.
 fn is_help(alloc: Global, words: &[&str], part: &str) -> bool {
     let choice = choose(alloc, words);
     matches!(&choice, Choice::Help(text) if text.as_str().contains(part))
 }
 
-// Whether they ask for a script on a core of this rule.
+// Whether they request a script on a core of this rule.
 fn is_play_by(alloc: Global, words: &[&str], wanted: Rule) -> bool {
     matches!(choose(alloc, words), Choice::Play { rule, after: None, .. } if rule == wanted)
 }
 
-// The limits that they ask for, over the default ones.
+// The limits that they request, over the default ones.
 fn limits_of(alloc: Global, words: &[&str]) -> Option<Limits> {
     let asked = match choose(alloc, words) {
         Choice::Play { limits, .. }
@@ -33,7 +33,7 @@ fn limits_of(alloc: Global, words: &[&str]) -> Option<Limits> {
     Some(asked.over(Limits::default()))
 }
 
-// Whether they ask for a script on a core of these limits.
+// Whether they request a script on a core of these limits.
 fn is_play_within(alloc: Global, words: &[&str], wanted: Limits) -> bool {
     limits_of(alloc, words) == Some(wanted)
 }
@@ -46,7 +46,7 @@ fn is_dot(alloc: Global, words: &[&str]) -> bool {
     matches!(choose(alloc, words), Choice::Dot)
 }
 
-// Whether they ask for the jobs of this plan, in so many turns, and to be as quiet.
+// Whether they request the jobs of this plan, in so many turns, and to be as quiet.
 fn is_jobs(alloc: Global, words: &[&str], plan: &str, most: u64, hushed: bool) -> bool {
     match choose(alloc, words) {
         Choice::Jobs {
@@ -63,7 +63,7 @@ fn is_jobs(alloc: Global, words: &[&str], plan: &str, most: u64, hushed: bool) -
     }
 }
 
-// Whether they ask for a script of this directory, to skip, to keep set-id bits and to be quiet or
+// Whether they request a script of this directory, to skip, to keep set-id bits and to be quiet or
 // not.
 fn is_load(alloc: Global, words: &[&str], folder: &str, asked: (bool, bool, bool)) -> bool {
     match choose(alloc, words) {
@@ -79,7 +79,7 @@ fn is_load(alloc: Global, words: &[&str], folder: &str, asked: (bool, bool, bool
     }
 }
 
-// Whether they ask for a list of what can't be loaded of this directory.
+// Whether they request a list of what can't be loaded of this directory.
 fn is_check(alloc: Global, words: &[&str], folder: &str) -> bool {
     match choose(alloc, words) {
         Choice::Load {
@@ -92,12 +92,12 @@ fn is_check(alloc: Global, words: &[&str], folder: &str) -> bool {
     }
 }
 
-// Whether they ask for jobs in so many threads at most.
+// Whether they request jobs in so many threads at most.
 fn is_jobs_in(alloc: Global, words: &[&str], most: u64) -> bool {
     matches!(choose(alloc, words), Choice::Jobs { pace, .. } if pace.threads == most)
 }
 
-// Whether they ask for this directory to be made, to keep set-id bits, to set no owners and to be
+// Whether they request this directory to be made, to keep set-id bits, to set no owners and to be
 // quiet or not.
 fn is_save(alloc: Global, words: &[&str], folder: &str, asked: (bool, bool, bool)) -> bool {
     match choose(alloc, words) {
@@ -133,7 +133,7 @@ fn first_file(alloc: Global, words: &[&str]) -> Option<String> {
     }
 }
 
-// Whether they ask for something after the script in this file.
+// Whether they request something after the script in this file.
 fn is_after(alloc: Global, words: &[&str], script: &str) -> bool {
     match first_file(alloc, words) {
         Some(file) => file.as_str() == script,

@@ -20,7 +20,7 @@ use std::time::{Clock, Duration};
 /// there.
 const MEETING_TURNS: u64 = 10_000;
 
-/// How often calls are asked for under a manager that lies, where some wait in vain.
+/// How often calls are asked for under a manager that lies, if some wait in vain.
 const FEW_TURNS: u64 = 3;
 
 /// Two jobs side by side, of which the first has two subjobs.
@@ -73,7 +73,7 @@ impl Gate for Meeting {
     }
 }
 
-/// Whether a job has committed, with a mkdir and a stat that tells of the new directory.
+/// Whether a job has committed, with a mkdir and a stat that shows the new directory.
 fn has_made(report: &Report) -> bool {
     let [made, told] = report.calls.as_slice() else {
         return false;
@@ -113,7 +113,7 @@ fn run_meeting<R: Threads + Wait + Clock + Sync>(
     )?)
 }
 
-/// Whether the calls of a history have just these stamps, in this order.
+/// Whether the calls of a history have exactly these stamps, in this order.
 fn has_stamps(history: &[Event], stamps: &[u64]) -> bool {
     let told = history.iter().filter_map(|event| match event {
         Event::Call { stamp, .. } => Some(*stamp),
@@ -133,7 +133,7 @@ fn meets<R: Threads + Wait + Clock + Sync>(rt: &R, alloc: Global) -> Result<bool
     Ok(have_made && has_all && rows == 9 && gate.met.load(Ordering::SeqCst) == 4)
 }
 
-/// Whether a job has used up its turns behind its mkdir, or has committed, and found nothing of the
+/// Whether a job has used up its turns after its mkdir, or has committed, and found nothing of the
 /// other one.
 fn has_crossed(report: &Report) -> bool {
     match (report.end, report.calls.as_slice()) {
@@ -158,11 +158,11 @@ fn crosses<R: Threads + Wait + Clock + Sync>(rt: &R, alloc: Global) -> Result<bo
     Ok(have_crossed && has_waited && gate.met.load(Ordering::SeqCst) == 2)
 }
 
-/// What a manager does otherwise than it says.
+/// An untruth of a manager.
 #[derive(Clone, Copy)]
 enum Lie {
     Nothing,
-    /// It tells of a call that is done as one that failed.
+    /// It reports a call that is done as one that failed.
     DoneIsFailed,
     /// It begins subtransactions at the top.
     SubsAtTop,
@@ -240,7 +240,8 @@ impl Manager for Lying {
     }
 }
 
-/// The ends of the jobs of the worked plan, or why they are not told, under a manager that lies so.
+/// The ends of the jobs of the worked plan, or why they are not reported, under a manager that lies
+/// so.
 fn ends_under<R: Threads + Wait + Clock + Sync>(
     rt: &R,
     alloc: Global,
@@ -264,7 +265,7 @@ fn ends_under<R: Threads + Wait + Clock + Sync>(
     }
 }
 
-/// The ends that reports tell of.
+/// The ends in reports.
 fn ends_of(alloc: Global, reports: &[Report]) -> Result<Vec<End>, Fail> {
     let mut ends = Vec::new(alloc);
     for report in reports {

@@ -1,4 +1,4 @@
-// What jobs came to, as text.
+// The outcome of jobs, as text.
 use ft_base::{Memory, Sequence};
 use ft_core::{Fault, TxnId};
 use ft_jobs::{End, Plan, Report};
@@ -35,7 +35,7 @@ fn reports(alloc: Global) -> Result<Vec<Report>, Memory> {
     Ok(reports)
 }
 
-// Whether this is told of jobs without calls that leave the root alone.
+// Whether this is the text of jobs without calls that leave only the root.
 fn is_told(alloc: Global, plan: &Plan, reports: &[Report], told: &str) -> Result<bool, Memory> {
     let tree = TreeText::of(alloc, &[TreeRow::Dir { number: 1 }])?;
     let text = OutcomeText {

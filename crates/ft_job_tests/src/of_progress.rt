@@ -1,4 +1,4 @@
-// The line that tells how far jobs have come, and the screen that it is written on.
+// The line that shows how far jobs have come, and the screen that it is written on.
 use ft_jobs::Gate;
 use ft_outcome::Watch;
 use ft_plan::Plan;
@@ -10,7 +10,7 @@ use std::time::{Clock, Duration};
 
 const TWO_JOBS: &[u8] = b"job one\nmkdir /a\nmkdir /b\ncommit\njob two-2\nmkdir /c\nabort\n";
 
-// The jobs that come to each step, each job by its place, and what is told then.
+// The jobs that come to each step, each job by its place, and what is shown then.
 const TOLD: &[(&[(u64, u64)], &str)] = &[
     (&[], "jobs ended: 0 of 2; calls granted: 0"),
     (&[(0, 1), (1, 1)], "jobs ended: 0 of 2; calls granted: 0"),
@@ -26,12 +26,12 @@ const TOLD: &[(&[(u64, u64)], &str)] = &[
 
 const TOLD_AT_THE_END: &str = "jobs ended: 2 of 2; calls granted: 2";
 
-// Whether the watch tells this.
+// Whether the watch shows this.
 fn tells<R: Wait>(rt: &R, alloc: Global, watch: &Watch<'_>, told: &str) -> Result<bool, Fail> {
     Ok(watch.line(rt, alloc)?.as_str() == told)
 }
 
-// Whether it tells all these, each once the jobs have come to its steps.
+// Whether it shows all these, each once the jobs have come to its steps.
 fn tells_all<R: Wait + Clock>(rt: &R, alloc: Global, watch: &Watch<'_>) -> Result<bool, Fail> {
     for (steps, told) in TOLD {
         for (job, step) in *steps {
@@ -44,7 +44,7 @@ fn tells_all<R: Wait + Clock>(rt: &R, alloc: Global, watch: &Watch<'_>) -> Resul
     Ok(true)
 }
 
-// Whether a line tells of two jobs as they come to a call, wait and end.
+// Whether a line shows two jobs as they come to a call, wait and end.
 fn tells_to_the_end<R: Wait + Clock>(
     rt: &R,
     alloc: Global,
@@ -68,7 +68,8 @@ fn jobs_are_watched(rt: HostRuntime) -> Result<(), Fail> {
     Ok(())
 }
 
-// What a screen has got when the first job has asked for a call, and has waited for so long.
+// Returns what a screen has got when the first job has asked for a call, and has waited for so
+// long.
 fn shown<R: Threads + Wait + Clock + Sync>(
     rt: &R,
     alloc: Global,

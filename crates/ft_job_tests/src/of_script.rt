@@ -1,5 +1,5 @@
-// What no clause says: readers and writers that fail, halt or take little, and the time that the
-// most reads take. Scripts alone are case files, which the built program plays.
+// No clause states this: readers and writers that fail, halt or take little, and the time that the
+// most reads take. Scripts are case files, which the built program plays.
 use ft_core::Core;
 use ft_script::{LONGEST_LINE, MOST_READS, PlayFault, play};
 use std::alloc::Global;
@@ -93,7 +93,7 @@ impl Write for Counting<'_> {
     }
 }
 
-// What a writer does once it has no more room.
+// The behaviour of a writer that has no more room.
 #[derive(Clone, Copy)]
 enum AtEnd {
     Nothing,

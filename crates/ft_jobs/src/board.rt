@@ -1,4 +1,5 @@
-// Where the jobs of a plan stand: which may start, who waits for whom of them, and their reports.
+// The state of the jobs of a plan: which may start, which of them waits for which, and their
+// reports.
 use ft_base::{Memory, Sequence};
 use ft_core::TxnId;
 use ft_plan::{Job, JobName};
@@ -6,11 +7,11 @@ use ft_reports::{End, Report, ended_as_meant, is_must, place_of};
 use std::alloc::Global;
 use std::sync::{Condvar, Mutex, Wait};
 
-/// Where the jobs of a plan stand, for their threads to share.
+/// The state of the jobs of a plan, which their threads share.
 #[derive(Drop)]
 pub struct Board {
     places: Mutex<Places>,
-    // A job has come to its subjobs, or has ended.
+    // A job has reached its subjobs, or has ended.
     moved: Condvar,
 }
 
@@ -24,11 +25,11 @@ struct Places {
 // A job among the others.
 #[derive(Drop)]
 struct Place {
-    // Where the job stands that it is a subjob of, if it is one.
+    // The place of the job that it is a subjob of, if it is one.
     parent: Option<usize>,
     // Whether it takes that one along.
     is_must: bool,
-    // Where those stand that it comes after.
+    // The places of those that it comes after.
     after: Vec<usize>,
     phase: Phase,
 }
@@ -38,7 +39,7 @@ struct Place {
 enum Phase {
     // No thread has taken it yet.
     Ahead,
-    // It has not come to its subjobs yet.
+    // It has not reached its subjobs yet.
     Taken,
     // Its subjobs may begin, under this transaction.
     AtSubs(TxnId),
@@ -52,7 +53,7 @@ pub enum Start {
     Top,
     /// Under this transaction.
     Under(TxnId),
-    /// It does not begin: its parent has not come to its subjobs, or one that it comes after has
+    /// It does not begin: its parent has not reached its subjobs, or one that it comes after has
     /// not committed.
     Never,
 }
@@ -77,7 +78,7 @@ impl Board {
         })
     }
 
-    /// Takes the first job that may start, once one may; none where all are taken.
+    /// Takes the first job that may start, once one may; none if all are taken.
     pub fn take<R: Wait>(&self, rt: &R) -> Option<usize> {
         let mut places = self.moved.wait_while(rt, self.places.lock(rt), |places| {
             places.has_ahead() && places.next().is_none()
@@ -87,7 +88,7 @@ impl Board {
         Some(at)
     }
 
-    /// Takes the first subjob of a job that may start, once one may; none where all have ended.
+    /// Takes the first subjob of a job that may start, once one may; none if all have ended.
     pub fn take_below<R: Wait>(&self, rt: &R, parent: usize) -> Option<usize> {
         let mut places = self.moved.wait_while(rt, self.places.lock(rt), |places| {
             places.has_live_below(parent) && places.next_below(parent).is_none()
@@ -151,7 +152,7 @@ impl Place {
     }
 }
 
-// Where the jobs of these names stand.
+// Returns the places of the jobs of these names.
 fn places_of(alloc: Global, jobs: &[Job], names: &[JobName]) -> Result<Vec<usize>, Memory> {
     let mut places = Vec::new(alloc);
     for name in names {

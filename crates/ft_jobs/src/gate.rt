@@ -1,16 +1,16 @@
-// What may hold up the steps of jobs, and is told how far they come.
+// A gate may hold up the steps of jobs, and learns how far they come.
 use std::sync::Wait;
 use std::time::Clock;
 
-/// What may hold up the steps of jobs, so that a test can tell in which order they come, or takes
+/// A gate may hold up the steps of jobs, so that a test can tell in which order they come, or takes
 /// note of how far they come.
 pub trait Gate: Sync {
     /// Is called before each step of a job, with its number, and the job goes on when it returns.
     /// Jobs are numbered from 0, steps from 1.
     fn pass<R: Wait + Clock>(&self, rt: &R, job: u64, step: u64);
 
-    /// Is called when a job has ended, also one that was not started. Does nothing, where a gate
-    /// does not say otherwise.
+    /// Is called when a job has ended, even if it was not started. Does nothing if a gate does not
+    /// define it.
     fn ended<R: Wait + Clock>(&self, _rt: &R, _job: u64) {}
 }
 

@@ -11,7 +11,7 @@ use std::alloc::Global;
 use std::sync::Wait;
 use std::time::Clock;
 
-/// What the threads of all jobs share.
+/// The parts that the threads of all jobs share.
 #[derive(Drop)]
 pub struct Work<'a, M, G> {
     pub alloc: Global,
@@ -58,7 +58,7 @@ fn taken<M: Manager, G: Gate, R: Wait>(
     }
 }
 
-// Begins a job's transaction. Where it has none, the job ends.
+// Begins a job's transaction. If it has none, the job ends.
 fn begun<'a, M: Manager, G: Gate, R: Wait + Clock>(
     rt: &R,
     work: &Work<'a, M, G>,
@@ -106,8 +106,7 @@ fn end<M: Manager, G: Gate, R: Wait + Clock>(rt: &R, work: &Work<'_, M, G>, repo
     work.gate.ended(rt, job);
 }
 
-// Passes the step at which the subjobs of a job have ended. Where one of them takes it along, it
-// ends.
+// Passes the step at which the subjobs of a job have ended. If one of them takes it along, it ends.
 fn passed<'a, M: Manager, G: Gate, R: Wait + Clock>(
     rt: &R,
     work: &Work<'a, M, G>,
@@ -137,8 +136,8 @@ fn go_on<'a, M: Manager, G: Gate, R: Wait + Clock>(
     }
 }
 
-// Lets the subjobs of a job start, and parks it until they have ended. Where there is no memory for
-// that, it ends.
+// Lets the subjobs of a job start, and parks it until they have ended. If there is not enough
+// memory for that, it ends.
 fn park<'a, M: Manager, G: Gate, R: Wait + Clock>(
     rt: &R,
     work: &Work<'a, M, G>,
@@ -208,7 +207,7 @@ impl Run<'_> {
         Stop::Ended(abort(rt, work, self.txn))
     }
 
-    // Asks for the call of a step, and answers the descriptor that it opened, or 0. The places of
+    // Asks for the call of a step, and returns the descriptor that it opened, or 0. The places of
     // both and the call's copy are made before, so that a call that is granted is reported.
     fn ask<M: Manager, G: Gate, R: Wait + Clock>(
         &mut self,
@@ -231,8 +230,8 @@ impl Run<'_> {
         }
     }
 
-    // Notes the call that a step was granted, and answers the descriptor that it opened, or 0. In a
-    // strict job the step fails where its call did, and is not tried.
+    // Notes the call that a step was granted, and returns the descriptor that it opened, or 0. In a
+    // strict job the step fails if its call did, and is not tried.
     fn granted(&mut self, step: &Step, call: CallReport) -> Result<u64, End> {
         let descriptor = descriptor_in(&call.reply);
         let fails = is_strict(self.job.kind) && !goes_on(step, &call);
@@ -243,8 +242,7 @@ impl Run<'_> {
         Ok(descriptor)
     }
 
-    // How the job ends where its step could not be made, which would end it so if it were not
-    // strict.
+    // How the job ends if its step could not be made, which would end it so if it were not strict.
     fn failing(&self, end: End) -> End {
         if is_strict(self.job.kind) {
             return End::Failed(self.number);
@@ -252,7 +250,7 @@ impl Run<'_> {
         end
     }
 
-    // Ends the job so, once its transaction is aborted where one of its steps could not be made.
+    // Ends the job so, once its transaction is aborted if one of its steps could not be made.
     fn finish<M: Manager, G: Gate, R: Wait + Clock>(self, rt: &R, work: &Work<'_, M, G>, how: End) {
         if matches!(how, End::Waited | End::Refused(_) | End::Failed(_)) {
             // It may have ended with one above it, and then this is refused.
@@ -268,7 +266,7 @@ impl Run<'_> {
     }
 }
 
-// Commits a job's transaction, and answers how the job ends.
+// Commits a job's transaction, and returns how the job ends.
 fn commit<M: Manager, G: Gate, R: Wait + Clock>(rt: &R, work: &Work<'_, M, G>, txn: TxnId) -> End {
     match work.manager.commit(rt, txn) {
         Ok(()) => End::Committed,
@@ -276,7 +274,7 @@ fn commit<M: Manager, G: Gate, R: Wait + Clock>(rt: &R, work: &Work<'_, M, G>, t
     }
 }
 
-// Aborts a job's transaction, and answers how the job ends.
+// Aborts a job's transaction, and returns how the job ends.
 fn abort<M: Manager, G: Gate, R: Wait + Clock>(rt: &R, work: &Work<'_, M, G>, txn: TxnId) -> End {
     match work.manager.abort(rt, txn) {
         Ok(_) => End::Aborted,

@@ -1,7 +1,7 @@
 // How jobs are run.
 ghost use Rattle.std.specs.Prelude.{◌≤◌};
 
-/// The most threads that run jobs where nothing is said of it.
+/// The most threads that run jobs if no other number is given.
 pub const USUAL_THREADS: u64 = 64;
 
 /// How jobs are run.

@@ -16,7 +16,7 @@ use std::sync::Wait;
 use std::thread::{self, Threads};
 use std::time::Clock;
 
-/// What has become of the jobs of a plan.
+/// The outcome of the jobs of a plan.
 #[derive(Drop)]
 pub struct JobsOutcome {
     /// The core, after all jobs have ended.
@@ -26,10 +26,10 @@ pub struct JobsOutcome {
 }
 
 impl JobsOutcome {
-    /// The reports of the jobs of a plan, with the core that they left, once they are compared with
-    /// its history.
+    /// Returns the reports of the jobs of a plan, with the core that they left, once they are
+    /// compared with its history.
     ///
-    /// Answers Mismatch where they are not what happened, or a transaction is live. At a fault the
+    /// Returns Mismatch if they are not what happened, or a transaction is live. At a fault the
     /// core is dropped. Any other fault is Memory.
     pub fn compared(
         alloc: Global,
@@ -51,14 +51,14 @@ impl JobsOutcome {
 }
 
 /// Runs the jobs of a plan in threads, each in a transaction of its own: a top job in one at the
-/// top, a subjob, once its parent has come to its `subs`, in one under its parent's, and a job that
-/// comes after others once these have committed. How many threads there are, and how often a call
-/// is asked for, says the pace.
+/// top; a subjob, once its parent has reached its `subs`, in one under its parent's; and a job that
+/// comes after others once these have committed. The pace gives the number of threads, and how
+/// often a call is asked for.
 ///
-/// At the end the reports are compared with the history, whatever the manager answered. Answers
-/// Mismatch where they are not what happened or a transaction is live, and Thread where a thread
-/// could not be started, after those that were have ended. At a fault the core is dropped. Any
-/// other fault is Memory. The core is the one that the manager hands back.
+/// At the end the reports are compared with the history, whatever the manager returned. Returns
+/// Mismatch if they are not what happened or a transaction is live, and Thread if a thread could
+/// not be started, after those that were have ended. At a fault the core is dropped. Any other
+/// fault is Memory. The core is the one that the manager hands back.
 pub fn run_jobs<M: Manager, G: Gate, R: Threads + Wait + Clock + Sync>(
     rt: &R,
     alloc: Global,
@@ -77,10 +77,10 @@ pub fn run_jobs<M: Manager, G: Gate, R: Threads + Wait + Clock + Sync>(
     JobsOutcome::compared(alloc, plan, core, run?)
 }
 
-/// Runs the jobs of a plan as `run_jobs` does, and answers what they report, which is compared with
+/// Runs the jobs of a plan as `run_jobs` does, and returns what they report, which is compared with
 /// nothing.
 ///
-/// Answers Thread where a thread could not be started, after those that were have ended. Any other
+/// Returns Thread if a thread could not be started, after those that were have ended. Any other
 /// fault is Memory.
 pub fn report_jobs<M: Manager, G: Gate, R: Threads + Wait + Clock + Sync>(
     rt: &R,
@@ -108,8 +108,8 @@ pub fn report_jobs<M: Manager, G: Gate, R: Threads + Wait + Clock + Sync>(
     Ok(board.into_reports())
 }
 
-// Starts a thread for each job, but so many at most, and waits until all have ended. Whether all
-// could be started: behind one that could not, no other is.
+// Starts a thread for each job, but at most so many, and waits until all have ended. Returns
+// whether all could be started: after one that could not, no other is.
 fn start_all<M: Manager, G: Gate, R: Threads + Wait + Clock + Sync>(
     rt: &R,
     work: &Work<'_, M, G>,

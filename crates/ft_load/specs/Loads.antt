@@ -1,4 +1,4 @@
--- What a load writes.
+-- The script that a load writes.
 use Rattle.std.specs.Prelude.{Bool, ◌≡◌, ◌⊎◌, ℕ, List, [], ◌∷◌, ◌++◌, Option}
 use Rattle.std.specs.List.{flat_map}
 use Rattle.std.specs.Io.KnownBytes.{Appends, Keeps}
@@ -18,7 +18,7 @@ use Rattle.ft_copy.specs.Stops.{IsCause, IsReached, Reached, asked_before, asked
 use Rattle.ft_core.specs.declared.limits.Limits.{Limits}
 use Rattle.ft_load.specs.Scripts.{BreaksOff, IsWithinCalls, fd_of, next_of, script_text}
 
--- what may be copied where a core has these limits, with set-id bits or without
+-- what may be copied if a core has these limits, with set-id bits or without
 abbrev pub copy_limits : Limits → Bool → CopyLimits
 copy_limits limits set_id = record { file_size = limits.file_size; links = limits.links; set_id = set_id }
 
@@ -26,10 +26,10 @@ copy_limits limits set_id = record { file_size = limits.file_size; links = limit
 abbrev pub whole : List Visit → List Visit → Attributes → List Asked
 whole visits links kept = Start ∷ flat_map asked_of visits ++ flat_map asked_of links ++ Finish kept ∷ []
 
--- What was visited is what the source told, from the root on, each place in its turn, until none
--- was left, and then the symbolic links that were met, until none was left; and the script of just
--- that was written, with what may be copied of the root's attributes. A core with these limits grants
--- as many calls, and its files may be as large.
+-- The places that were visited are those that the source reported, from the root on, each place in
+-- its turn, until none was left, and then the symbolic links that were met, until none was left.
+-- The script of exactly these was written, with what may be copied of the root's attributes. A core
+-- with these limits grants as many calls, and its files may be as large.
 pub record Loads (limits : Limits) (set_id : Bool) (tells : Told → Type 0) (held held_after : Option (List ℕ)) : Type 0 where
   pub top : FoundFolder
   pub begun : Standing
@@ -51,8 +51,8 @@ abbrev pub BreaksOffAt : Limits → Trouble → List Asked → ℕ → ℕ → O
 BreaksOffAt limits trouble [] next fd held held_after = ⊥
 BreaksOffAt limits trouble (first ∷ more) next fd held held_after = BreaksOff limits trouble first next fd held held_after
 
--- A load came so far as the source told, and no further: of the script up to there a beginning was
--- written, whole lines and a part of the next one at most.
+-- A load came so far as the source reported, and no further: a beginning of the script up to there
+-- was written, whole lines and at most a part of the next one.
 pub record StopsLoad (limits : Limits) (set_id : Bool) (tells : Told → Type 0) (stopped : Stopped) (held held_after : Option (List ℕ)) : Type 0 where
   pub reached : Reached
   pub told : IsReached (copy_limits limits set_id) tells reached

@@ -24,7 +24,7 @@ use Rattle.ft_copy.specs.Asked.{Asked, Start, Folder, Open, Piece, Close, Link, 
 abbrev pub call_line : Call → List ℕ
 call_line call = codes "1 " ++ call_text call ++ 10 ∷ []
 
--- a mode where it has to be said: it is not that which a directory or file gets anyway
+-- a mode if it must be set: it is not that which a directory or file gets anyway
 abbrev pub said_mode : Kind → ℕ → Option ℕ
 said_mode kind mode = if mode == default_mode kind then None else Some mode
 
@@ -36,8 +36,8 @@ has_owners a = not ((a.owner == 0) && (a.group == 0))
 abbrev pub where_owned : Attributes → Call → Option Call
 where_owned a call = if has_owners a then Some call else None
 
--- the owner and the group of what stands at a path, or is open, and the mode of what stands at one,
--- as calls, where they have to be said
+-- the owner and the group of what is at a path, or is open, and the mode of what is at one, as
+-- calls, if they must be set
 abbrev pub chown_of : List ℕ → Attributes → Option Call
 chown_of path a = where_owned a (calls.Chown (Some a.owner) (Some a.group) path)
 
@@ -47,7 +47,7 @@ fchown_of fd a = where_owned a (calls.Fchown fd (Some a.owner) (Some a.group))
 abbrev pub chmod_of : List ℕ → Attributes → Option Call
 chmod_of path a = option_map (λ mode. calls.Chmod mode path) (said_mode Dir a.mode)
 
--- the time of the bytes of the open file as a call, where there is one
+-- the time of the bytes of the open file as a call, if there is one
 abbrev pub futime_of : ℕ → Option Timestamp → Option Call
 futime_of fd time = option_map (calls.Futime fd) time
 
@@ -55,8 +55,8 @@ futime_of fd time = option_map (calls.Futime fd) time
 abbrev pub root_path : List ℕ
 root_path = codes "/"
 
--- The calls for each thing that is asked for, where the next one has the stamp `next`, and `fd` is
--- the descriptor of the open file.
+-- The calls for each thing that is requested, if the next one has the stamp `next`, and `fd` is the
+-- descriptor of the open file.
 abbrev pub calls_at : Asked → ℕ → ℕ → List Call
 calls_at Start next fd = []
 calls_at (Folder path a) next fd = calls.Mkdir path (said_mode Dir a.mode) ∷ option_to_list (chown_of path a)
@@ -76,8 +76,8 @@ calls_text calls = flat_map call_line calls
 abbrev pub commit_line : List ℕ
 commit_line = codes "commit 1\n"
 
--- What is written for each thing that is asked for, where the script needs these limits: the calls,
--- behind the first lines or before the last.
+-- The text that is written for each thing that is requested, if the script needs these limits: the
+-- calls, after the first lines or before the last.
 abbrev pub text_at : Limits → Asked → ℕ → ℕ → List ℕ
 text_at limits Start next fd = needs_text limits ++ codes "begin" ++ 10 ∷ []
 text_at limits (Finish a) next fd = calls_text (calls_at (Finish a) next fd) ++ commit_line
@@ -141,8 +141,8 @@ IsWithinCalls limits next = next ≤ limits.calls + 2
 abbrev pub AsksFor : Limits → Call → ℕ → Option (List ℕ) → ℕ → Option (List ℕ) → Type 0
 AsksFor limits call next held next_after held_after = Appends held held_after (call_line call) × (next_after ≡ suc next) × IsWithinCalls limits next_after
 
--- What is written for one thing, and what comes next. If it is a call, there are no more than are
--- granted.
+-- The text that is written for one thing, and what comes next. If it is a call, there are no more
+-- than are granted.
 abbrev pub Scripts : Limits → Asked → ℕ → ℕ → Option (List ℕ) → ℕ → ℕ → Option (List ℕ) → Type 0
 Scripts limits asked next fd held next_now fd_now held_now =
     Appends held held_now (text_at limits asked next fd) × (next_now ≡ next_after asked next) × (fd_now ≡ fd_after asked next fd) × ((next_now ≡ next) ⊎ IsWithinCalls limits next_now)

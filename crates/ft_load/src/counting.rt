@@ -1,4 +1,4 @@
-// What a script of a tree of directories needs of its core.
+// The limits that a script of a tree of directories needs of its core.
 ghost use Rattle.std.specs.Prelude.{◌≡◌, ◌≤◌, IfOk, min};
 ghost use Rattle.ft_core.specs.Limits.{default_limits};
 
@@ -12,12 +12,13 @@ use ft_core::Limits;
 use std::alloc::Global;
 use std::cell::Cell;
 
-/// The limits that a core needs on which a script of what a source tells is to be played: the
-/// default ones, or where that is not enough, those for as large files and as many calls, but no
-/// more than `most`.
+/// Returns the limits that a core needs on which a script of this source is to be played: the
+/// default ones, or if that is not enough, those for as large files and as many calls, but no more
+/// than `most`.
 ///
-/// No file is read for it: its size is what the source tells. Where the source can't tell something,
-/// or tells of what is not allowed, what was told before counts. Fails only for want of memory.
+/// No file is read for it: its size is what the source reports. If the source can't report
+/// something, or reports what is not allowed, what was reported before counts. Fails only for lack
+/// of memory.
 pub fn needs_of<S: Source>(
     alloc: Global,
     most: Limits,
@@ -104,13 +105,13 @@ impl<S: Source> Source for CountedSource<'_, S> {
         self.source.read_link(path, node)
     }
 
-    // (what is left out is told when the script is written)
+    // (what is left out is reported when the script is written)
     fn omits(&self, _path: &[u8]) -> Result<bool, Trouble> {
         Ok(true)
     }
 }
 
-// How many calls a script makes beside those that write.
+// How many calls a script makes besides those that write.
 #[derive(Drop)]
 struct CallCount {
     count: u64,

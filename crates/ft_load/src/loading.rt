@@ -8,20 +8,20 @@ use ft_core::Limits;
 use std::alloc::Global;
 use std::io::Write;
 
-/// Writes a script of one transaction that makes what a source tells of. It is for a core that is
-/// new and has these limits; where they are above the default ones, the first line of the script says
-/// so. A file that is larger is refused, and so are more calls.
+/// Writes a script of one transaction that makes what a source holds. It is for a core that is new
+/// and has these limits; if they are above the default ones, the first line of the script gives
+/// them. A file that is larger is refused, and so are more calls.
 ///
-/// The transaction is number 1. Each directory is made before what stands in it, the names of a
-/// directory in the order of their bytes. A file is opened where it is met first, written in the
-/// pieces in which it was read, and closed; where it is met again it gets a further name by a link.
-/// Symbolic links come behind all else, and are not followed.
+/// The transaction is number 1. Each directory is made before what is in it, the names of a
+/// directory in the order of their bytes. A file is opened when it is met first, written in the
+/// pieces in which it was read, and closed. When it is met again it gets a further name by a link.
+/// Symbolic links come after all else, and are not followed.
 ///
-/// Modes, owners and groups are said where they are not those that a directory or file gets anyway,
-/// those of the root at the end, and of files the time. A mode has its bits S_ISUID and S_ISGID only
-/// where that is asked for.
+/// Modes, owners and groups are set if they are not those that a directory or file gets anyway,
+/// those of the root at the end, and of files the time. A mode has its bits S_ISUID and S_ISGID
+/// only if that is requested.
 ///
-/// The writer is handed back. Where something fails, a part of the script was written, and its
+/// The writer is handed back. If something fails, a part of the script was written, and its
 /// transaction does not commit, unless only the last line feed is missing.
 pub fn load<S: Source, W: Write>(
     alloc: Global,

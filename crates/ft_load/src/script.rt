@@ -18,8 +18,8 @@ use std::io::Write;
 // The path of the root.
 const ROOT_PATH: &[u8] = b"/";
 
-/// A script of one transaction, which is written as what it is asked for comes in. It is for a core
-/// that is new, where the transaction is number 1 and the first call has stamp 2.
+/// A script of one transaction, which is written as its requests come in. It is for a core that is
+/// new: the transaction is number 1 and the first call has stamp 2.
 #[derive(Drop)]
 pub(crate) struct Script<W> {
     pub(crate) alloc: Global,
@@ -173,7 +173,7 @@ fn path_of(alloc: Global, bytes: &[u8]) -> Result<FilePath, Trouble>
     }
 }
 
-/// The mode of what is made, where it has to be said: it is not that which a directory or file
+/// Returns the mode of what is made, if it must be set: it is not that which a directory or file
 /// gets anyway.
 pub(crate) fn said_mode(kind: Kind, mode: u16) -> Option<u16>
     ensures { result ≡ said_mode kind mode }
@@ -185,14 +185,14 @@ pub(crate) fn said_mode(kind: Kind, mode: u16) -> Option<u16>
     }
 }
 
-/// Whether owner and group have to be said.
+/// Whether owner and group must be said.
 pub(crate) fn has_owners(attributes: Attributes) -> bool
     ensures { result ≡ has_owners attributes }
 {
     attributes.owner != 0 || attributes.group != 0
 }
 
-// The call that sets the owner and the group of what stands at a path, where they have to be said.
+// The call that sets the owner and the group of what is at a path, if they must be set.
 fn chown_of(alloc: Global, path: &[u8], attributes: Attributes) -> Result<Option<Call>, Trouble>
     ensures ok { IfOk result (λ call. call ≡ chown_of path.now attributes) }
     ensures err { IfErr result (λ trouble. (trouble ≡ Trouble.Memory) ⊎ ((trouble ≡ Trouble.BadName) × (has_nul path.now ≡ true))) }
@@ -221,7 +221,7 @@ fn fchown_of(fd: u64, attributes: Attributes) -> Option<Call>
     })
 }
 
-// The call that sets the time of the bytes of the open file, where there is one.
+// The call that sets the time of the bytes of the open file, if there is one.
 fn futime_of(fd: u64, time: Option<Timestamp>) -> Option<Call>
     ensures { result ≡ futime_of fd time }
 {
@@ -229,7 +229,7 @@ fn futime_of(fd: u64, time: Option<Timestamp>) -> Option<Call>
     Some(Call::Futime { fd, time })
 }
 
-// The call that sets the mode of the directory at a path, where it has to be said.
+// The call that sets the mode of the directory at a path, if it must be set.
 fn chmod_of(alloc: Global, path: &[u8], attributes: Attributes) -> Result<Option<Call>, Trouble>
     ensures ok { IfOk result (λ call. call ≡ chmod_of path.now attributes) }
     ensures err { IfErr result (λ trouble. (trouble ≡ Trouble.Memory) ⊎ ((trouble ≡ Trouble.BadName) × (has_nul path.now ≡ true))) }

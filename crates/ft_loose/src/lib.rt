@@ -1,4 +1,4 @@
-//! A box, handed out as its pointer and taken back.
+//! A box, handed out as its pointer and put together again.
 #![tactic(auto)]
 
 ghost use Rattle.std.specs.Prelude.{◌≡◌};
@@ -9,7 +9,7 @@ use std::marker::Model;
 
 /// A box as its pointer. It owns what the box has owned: the value, and the right to free it.
 ///
-/// It has no `drop`: who has taken it apart owes the box.
+/// It has no `drop`: a function that has taken it apart owes the box.
 pub struct Loose<T, A: Allocator> {
     pub at: *mut T,
     pub alloc: A,

@@ -1,4 +1,4 @@
--- The line on which a script says which limits it needs: `# needs`, and flags with their values.
+-- The line that lists the limits which a script needs: `# needs`, and flags with their values.
 use Rattle.std.specs.Prelude.{◌==◌, ◌&&◌, Bool, ◌%◌, ◌/◌, ◌^◌, ℕ, max, nat_le, List, [], ◌∷◌, ◌++◌, codes, if◌then◌else◌, Option, None, Some, option_and_then, option_map}
 use Rattle.std.specs.Option.{unwrap_or}
 use Rattle.std.specs.Fmt.{decimal}
@@ -26,14 +26,13 @@ with_flags [] limits = Some limits
 with_flags (flag ∷ []) limits = None
 with_flags (flag ∷ value ∷ more) limits = option_and_then (with_flags more) (with_flag flag value limits)
 
--- the words behind `# needs`
+-- the words after `# needs`
 abbrev pub flags_of : List (List ℕ) → Option (List (List ℕ))
 flags_of [] = None
 flags_of (first ∷ []) = None
 flags_of (first ∷ second ∷ flags) = if bytes_eq first (codes "#") then (if bytes_eq second (codes "needs") then Some flags else None) else None
 
--- At least these limits, and what a line says that its script needs. A line that says nothing of
--- the kind needs nothing.
+-- At least these limits, and those that a script needs by a line. Any other line needs nothing.
 abbrev pub raised_by : Limits → List ℕ → Limits
 raised_by limits line = unwrap_or (option_and_then (λ flags. with_flags flags limits) (flags_of (words_of (strip_carriage_return line)))) limits
 
@@ -42,13 +41,13 @@ abbrev pub raised_by_first : Limits → List (List ℕ) → Limits
 raised_by_first limits [] = limits
 raised_by_first limits (line ∷ lines) = raised_by limits line
 
--- at least these limits, and what a script says on its first line that it needs
+-- at least these limits, and those that a script needs by its first line
 abbrev pub raised_for : Limits → List ℕ → Limits
 raised_for limits script = raised_by_first limits (lines_of script)
 
 -- ---- how it is written
 
--- so many of a unit, with its letter, where it is a whole number of them
+-- so many of a unit, with its letter, if it is a whole number of them
 abbrev pub units_text : ℕ → ℕ → ℕ → List ℕ → List ℕ
 units_text size unit letter other = if size % unit == 0 then decimal (size / unit) ++ letter ∷ [] else other
 
@@ -56,7 +55,7 @@ units_text size unit letter other = if size % unit == 0 then decimal (size / uni
 abbrev pub size_text : ℕ → List ℕ
 size_text size = units_text size (2 ^ 30) 71 (units_text size (2 ^ 20) 77 (units_text size (2 ^ 10) 75 (decimal size)))
 
--- a flag with its value, after a space, where the limit is above the one that needs no flag
+-- a flag with its value, after a space, if the limit is above the one that needs no flag
 abbrev pub flag_text : List ℕ → ℕ → ℕ → List ℕ → List ℕ
 flag_text flag limit default value = if nat_le limit default then [] else codes " " ++ flag ++ codes " " ++ value
 
@@ -70,6 +69,6 @@ flags_text limits =
 abbrev pub needs_none : Limits → Bool
 needs_none limits = nat_le limits.file_size default_limits.file_size && nat_le limits.calls default_limits.calls
 
--- what a script says that needs these limits of sizes and calls, on a line with its line feed
+-- the line of a script that needs these limits of sizes and calls, with its line feed
 abbrev pub needs_text : Limits → List ℕ
 needs_text limits = if needs_none limits then [] else codes "# needs" ++ flags_text limits ++ 10 ∷ []

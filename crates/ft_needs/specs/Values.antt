@@ -1,5 +1,5 @@
--- How a limit is written: digits, or `none`, which stands for the greatest; a size may have `K`, `M`
--- or `G` behind its digits, which count in 2^10, 2^20 and 2^30.
+-- The text of a limit: digits, or `none`, which means the greatest; a size may have `K`, `M` or `G`
+-- after its digits, which count in 2^10, 2^20 and 2^30.
 use Rattle.std.specs.Prelude.{◌==◌, ◌-◌, ◌*◌, ◌^◌, ℕ, Bool, nat_le, nat_eq, List, [], ◌∷◌, ◌++◌, codes, length, take, drop, if◌then◌else◌, Option, None, Some, option_and_then}
 use Rattle.std.specs.Cmp.Lexicographic.{pointwise}
 use Rattle.std.specs.Fmt.{decimal}
@@ -10,17 +10,17 @@ use Rattle.ft_words.specs.Spelling.{number_of}
 abbrev pub up_to : ℕ → ℕ → Option ℕ
 up_to most number = if nat_le number most then Some number else None
 
--- the limit that a text tells, where this is the greatest
+-- the limit that a text gives, if this is the greatest
 abbrev pub limit_of : List ℕ → ℕ → Option ℕ
 limit_of text most = if bytes_eq text (codes "none") then Some most else option_and_then (up_to most) (number_of text)
 
 -- ---- sizes
 
--- the letter stands at the end
+-- the letter is at the end
 abbrev pub ends_in : List ℕ → ℕ → Bool
 ends_in text letter = pointwise nat_eq (drop (length text - 1) text) (letter ∷ [])
 
--- what stands before the last byte
+-- the bytes before the last one
 abbrev pub front_of : List ℕ → List ℕ
 front_of text = take (length text - 1) text
 
@@ -32,10 +32,10 @@ parts_of text =
     else (if ends_in text 71 then (front_of text, 2 ^ 30)
     else (text, 1)))
 
--- so many of a unit, where that is not beyond the greatest
+-- so many of a unit, if that is not beyond the greatest
 abbrev pub units_of : ℕ → List ℕ × ℕ → Option ℕ
 units_of most parts = option_and_then (λ number. up_to most (number * parts.1)) (number_of parts.0)
 
--- the size that a text tells, where this is the greatest
+-- the size that a text gives, if this is the greatest
 abbrev pub size_of : List ℕ → ℕ → Option ℕ
 size_of text most = if bytes_eq text (codes "none") then Some most else units_of most (parts_of text)

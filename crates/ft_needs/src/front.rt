@@ -1,4 +1,4 @@
-// What is read of a script before it is played.
+// The part of a script that is read before it is played.
 ghost use Rattle.std.specs.Prelude.{◌≡◌, IfOk, true};
 ghost use Rattle.std.specs.Io.KnownBytes.{Consumes};
 ghost use Rattle.ft_needs.specs.Fronts.{HasLine, IsFront};
@@ -19,12 +19,12 @@ const PIECE: usize = 512;
 // The most reads that are made.
 const MOST_READS: u32 = 100_000_000;
 
-/// The limits that are at least these, and at least what a script says on its first line that it
-/// needs, and the front of the script, which was read for it: its first line and maybe more. Of a
-/// line that is longer than `LONGEST_NEEDS`, it is as much.
+/// Returns the limits that are at least these, and at least those that a script needs by its first
+/// line, and the front of the script, which was read for it: its first line and maybe more. If the
+/// line is longer than `LONGEST_NEEDS`, the front is as much of it.
 ///
-/// Nothing is read behind a line that has come whole. The error is `OutOfMemory`, that of a read
-/// that failed, or `Interrupted` where too many were.
+/// Nothing is read after a line that has come whole. The error is `OutOfMemory`, that of a read
+/// that failed, or `Interrupted` if too many were.
 pub fn limits_for<R: Read>(
     alloc: Global,
     limits: Limits,

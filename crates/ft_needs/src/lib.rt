@@ -1,5 +1,5 @@
-//! Limits as text: the value of a flag that sets one, and the line on which a script says which
-//! ones it needs.
+//! Limits as text: the value of a flag that sets one, and the line that lists the limits a script
+//! needs.
 #![tactic(auto)]
 
 mod front;

@@ -1,4 +1,4 @@
-// The line on which a script says which limits it needs.
+// The line that lists the limits which a script needs.
 ghost use Rattle.std.specs.Prelude.{◌≡◌, Some};
 ghost use Rattle.ft_needs.specs.Lines.{flag_text, flags_text, needs_text, raised_by, raised_for, size_text, with_flag, with_flags};
 
@@ -7,8 +7,9 @@ use ft_core::Limits;
 use ft_words::{Lines, Words};
 use std::fmt;
 
-/// The limits that are at least these, and at least what a line says that its script needs: `# needs`
-/// and flags with their values, as `# needs --largest-file 3G`. Another line needs nothing.
+/// Returns the limits that are at least these, and at least those that a script needs by this line:
+/// `# needs` and flags with their values, as `# needs --largest-file 3G`. Another line needs
+/// nothing.
 pub fn raised_by(limits: Limits, line: &[u8]) -> Limits
     ensures { result ≡ raised_by limits line.now }
 {
@@ -20,8 +21,8 @@ pub fn raised_by(limits: Limits, line: &[u8]) -> Limits
     with_flags(words, limits).unwrap_or(limits)
 }
 
-/// The limits that are at least these, and at least what a script says on its first line that it
-/// needs.
+/// Returns the limits that are at least these, and at least those that a script needs by its first
+/// line.
 pub fn raised_for(limits: Limits, script: &[u8]) -> Limits
     ensures { result ≡ raised_for limits script.now }
 {
@@ -64,8 +65,8 @@ fn with_flag(flag: &[u8], value: &[u8], limits: Limits) -> Option<Limits>
     Some(limits)
 }
 
-/// The line on which a script says that it needs these limits of sizes and calls, with its line
-/// feed; nothing where they are no more than the default ones.
+/// The line by which a script needs these limits of sizes and calls, with its line feed; nothing if
+/// they are no more than the default ones.
 #[derive(Clone, Copy)]
 pub struct NeedsLine<'a>(pub &'a Limits);
 

@@ -4,8 +4,8 @@ ghost use Rattle.ft_needs.specs.Values.{ends_in, front_of, limit_of, parts_of, s
 
 use ft_words::number_of;
 
-/// The limit that a text tells: a number, or `none`, which stands for the greatest one. There is
-/// none where the number is beyond that, or the text is no number.
+/// Returns the limit that a text gives: a number, or `none`, which means the greatest one. There is
+/// none if the number is beyond that, or the text is no number.
 pub fn limit_of(text: &[u8], most: u64) -> Option<u64>
     ensures { result ≡ limit_of text.now most }
 {
@@ -15,7 +15,7 @@ pub fn limit_of(text: &[u8], most: u64) -> Option<u64>
     up_to(most, number_of(text)?)
 }
 
-/// The same of a size, which may have `K`, `M` or `G` behind it, for 2^10, 2^20 or 2^30 bytes.
+/// Returns the same of a size, which may end in `K`, `M` or `G`, for 2^10, 2^20 or 2^30 bytes.
 pub fn size_of(text: &[u8], most: u64) -> Option<u64>
     ensures { result ≡ size_of text.now most }
 {

@@ -1,4 +1,4 @@
--- What a run of a plan writes.
+-- The text that a run of a plan writes.
 use Rattle.std.specs.Prelude.{◌≡◌, ℕ, Bool, List, Option}
 use Rattle.std.specs.Io.KnownBytes.{Appends, Keeps}
 use Rattle.ft_cells.specs.Rows.{rows_of}
@@ -22,7 +22,7 @@ text_of_outcome jobs outcome = outcome_text jobs outcome.reports.items outcome.c
 
 -- The bytes are the plan of some jobs, and the text is that of an outcome of them: they have run on
 -- a core that was in this state, and their reports are what happened; and whether they ended as the
--- plan means, where it is strict.
+-- plan means, if it is strict.
 pub record IsTextOfPlan (met : Bool) (from : State) (bytes text : List ℕ) : Type 0 where
   pub jobs : List Job
   pub outcome : JobsOutcome
@@ -40,8 +40,8 @@ IsNoPlan bytes = (jobs : List Job) → IsPlanOf bytes jobs → ⊥
 abbrev pub RunsPlan : Bool → State → List ℕ → Option (List ℕ) → Option (List ℕ) → Type 0
 RunsPlan met from bytes before after = (text : List ℕ) × IsTextOfPlan met from bytes text × Appends before after text
 
--- What a fault left: nothing was written, at BadPlan where the bytes are no plan; a part of such
--- a text at Write.
+-- A fault leaves this: nothing was written, at BadPlan if the bytes are no plan; a part of such a
+-- text at Write.
 abbrev pub StopsPlan : RunFault → State → List ℕ → Option (List ℕ) → Option (List ℕ) → Type 0
 StopsPlan (faults.Jobs BadPlan) from bytes before after = IsNoPlan bytes × Keeps before after
 StopsPlan (faults.Jobs Memory) from bytes before after = Keeps before after

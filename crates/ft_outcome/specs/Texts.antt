@@ -1,4 +1,4 @@
--- The text of what jobs came to. (The format is this project's own: docs/SCRIPT.md, Plans.)
+-- The text of the outcome of jobs. (The format is this project's own: docs/SCRIPT.md, Plans.)
 use Rattle.std.specs.Prelude.{ℕ, Bool, true, false, List, [], ◌∷◌, ◌++◌, codes, Option, None, Some}
 use Rattle.std.specs.Fmt.{decimal}
 use Rattle.std.specs.List.{flat_map, count_by, zip}
@@ -14,12 +14,12 @@ use Rattle.ft_words.specs.Texts.{reply_text}
 
 -- ---- jobs
 
--- the number of a transaction, or `-` where there is none
+-- the number of a transaction, or `-` if there is none
 abbrev pub txn_text : Option ℕ → List ℕ
 txn_text None = codes "-"
 txn_text (Some txn) = decimal txn
 
--- how a job ended; behind `refused` the name of the refusal, and behind `failed` the number of the
+-- how a job ended; after `refused` the name of the refusal, and after `failed` the number of the
 -- step
 abbrev pub end_text : End → List ℕ
 end_text Committed = codes "committed"

@@ -1,5 +1,5 @@
-//! Plans that are run, how far their jobs have come, told on a line of a screen meanwhile, and the
-//! text of what they came to.
+//! Plans that are run, how far their jobs have come, shown on a line of a screen meanwhile, and the
+//! text of their outcome.
 #![tactic(auto)]
 
 mod progress;

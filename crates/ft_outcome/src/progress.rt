@@ -5,7 +5,7 @@ ghost use Rattle.ft_outcome.specs.ProgressTexts.{progress_text, waiting_text};
 use ft_plan::JobName;
 use std::fmt;
 
-/// How far the jobs of a plan have come. It is told without a line feed.
+/// How far the jobs of a plan have come. Its text has no line feed.
 #[derive(Clone, Copy)]
 pub struct Progress<'a> {
     /// How many jobs have ended.
@@ -48,7 +48,7 @@ impl fmt::Display for WaitingText<'_> {
     }
 }
 
-// Names, each behind a space.
+// Names, each after a space.
 #[derive(Clone, Copy)]
 struct Names<'a>(&'a [&'a JobName]);
 

@@ -1,4 +1,4 @@
-// Runs a plan: reads it, runs its jobs in threads, and writes what they came to.
+// Runs a plan: reads it, runs its jobs in threads, and writes their outcome.
 ghost use Rattle.std.specs.Prelude.{◌≡◌, ◌≢◌, IfOk, IfErr, IsErrOf, string_bytes};
 ghost use Rattle.ft_core.specs.Living.{NoneIsLive};
 ghost use Rattle.ft_record.specs.Going.{GoesOn};
@@ -44,14 +44,14 @@ impl From<JobFault> for RunFault {
     }
 }
 
-/// Reads a plan, runs its jobs on a core where no transaction is live, in threads, and
-/// writes what they came to: the text is of this core, as the jobs left it. How far they have
-/// come is shown on a screen while they run, if there is one. Answers whether each job ended as the
-/// plan means, which is so of any plan that is not strict.
+/// Reads a plan, runs its jobs in threads on a core in which no transaction is live, and writes
+/// their outcome: the text is of this core, as the jobs left it. How far they have come is shown on
+/// a screen while they run, if there is one. Returns whether each job ended as the plan means,
+/// which is so of any plan that is not strict.
 ///
 /// A fault ends the run.
-/// - Jobs: the bytes are no plan, or memory was wanted, a thread could not be started, or what the
-///   jobs report is not what happened. Nothing was written.
+/// - Jobs: the bytes are no plan, or there was not enough memory, a thread could not be started, or
+///   what the jobs report is not what happened. Nothing was written.
 /// - Write: a write failed, was interrupted or took nothing. A part of the text was written.
 pub fn run_plan<R: Threads + Wait + Clock + Sync, S: Write + Send + Drop, W: Write>(
     rt: &R,
@@ -73,7 +73,8 @@ pub fn run_plan<R: Threads + Wait + Clock + Sync, S: Write + Send + Drop, W: Wri
     }
 }
 
-// Runs the jobs of a plan, and tells what they came to, and whether that is as the plan means.
+// Runs the jobs of a plan, and returns the text of their outcome, and whether that is as the plan
+// means.
 fn text_of<R: Threads + Wait + Clock + Sync, S: Write + Send + Drop>(
     rt: &R,
     alloc: Global,
@@ -93,7 +94,7 @@ fn text_of<R: Threads + Wait + Clock + Sync, S: Write + Send + Drop>(
     Ok((text, met))
 }
 
-// What jobs came to.
+// Returns the text of the outcome of jobs.
 fn told(alloc: Global, jobs: &[Job], outcome: &JobsOutcome) -> Result<String, Memory>
     ensures { IfOk result (λ text. string_bytes text ≡ text_of_outcome jobs.now outcome.now) }
 {
@@ -108,7 +109,7 @@ fn told(alloc: Global, jobs: &[Job], outcome: &JobsOutcome) -> Result<String, Me
     Ok(format!(in alloc; "{text}")?)
 }
 
-// Runs the jobs of a plan on a core, which the name tells.
+// Runs the jobs of a plan on a core, which the name `J` describes.
 fn run_on<J: Sharing + Send + Sync, R: Threads + Wait + Clock + Sync, S: Write + Send + Drop>(
     rt: &R,
     alloc: Global,

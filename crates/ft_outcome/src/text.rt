@@ -1,4 +1,4 @@
-// The text of what jobs came to.
+// The text of the outcome of jobs.
 ghost use Rattle.std.specs.Prelude.{◌≡◌, Some};
 ghost use Rattle.std.specs.List.{flat_map, count_by};
 ghost use Rattle.ft_outcome.specs.Texts.{txn_text, end_text, job_text, jobs_text, is_call, event_text, history_text, outcome_text};
@@ -9,7 +9,7 @@ use ft_replies::fault_name;
 use ft_words::{CallText, ReplyText, TreeText};
 use std::fmt;
 
-/// What jobs came to: what became of each, the calls that were granted, and what the tree holds.
+/// The outcome of jobs: what became of each, the calls that were granted, and what the tree holds.
 /// Each line has its line feed.
 #[derive(Clone, Copy)]
 pub struct OutcomeText<'a> {
@@ -17,9 +17,9 @@ pub struct OutcomeText<'a> {
     pub jobs: &'a [Job],
     /// The report of each, in the same order.
     pub reports: &'a [Report],
-    /// What has happened.
+    /// The events.
     pub history: &'a [Event],
-    /// What the tree holds.
+    /// The text of the tree.
     pub tree: &'a TreeText<'a>,
 }
 
@@ -54,7 +54,7 @@ impl fmt::Display for JobLines<'_> {
     }
 }
 
-// What became of a job.
+// The outcome of a job.
 #[derive(Clone, Copy)]
 struct JobText<'a>(&'a Job, &'a Report);
 
@@ -73,7 +73,7 @@ impl fmt::Display for JobText<'_> {
     }
 }
 
-// The number of a transaction, or `-` where there is none.
+// The number of a transaction, or `-` if there is none.
 #[derive(Clone, Copy)]
 struct TxnText(Option<TxnId>);
 

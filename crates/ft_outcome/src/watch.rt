@@ -1,4 +1,4 @@
-// What is seen of jobs while they run.
+// The progress of jobs while they run.
 use crate::progress::Progress;
 use ft_jobs::Gate;
 use ft_plan::{Job, JobName, Step};
@@ -11,7 +11,7 @@ use std::time::{Clock, Duration};
 /// How far the jobs of a plan have come. It is a gate that lets each step pass at once, and takes
 /// note of it.
 ///
-/// No clause says what it shows.
+/// No clause constrains what it shows.
 #[derive(Drop)]
 pub struct Watch<'a> {
     jobs: &'a [Job],
@@ -20,7 +20,7 @@ pub struct Watch<'a> {
     over: Condvar,
 }
 
-// What was noted.
+// The notes.
 #[derive(Drop)]
 struct Noted {
     places: Vec<Place>,
@@ -28,7 +28,7 @@ struct Noted {
     is_over: bool,
 }
 
-// Where a job is.
+// The place of a job.
 #[derive(Clone, Copy, PartialEq, Eq)]
 enum Place {
     // At no call.
@@ -58,9 +58,9 @@ impl<'a> Watch<'a> {
         })
     }
 
-    /// Shows how far the jobs have come, on a line of a screen that it writes anew ten times a
-    /// second at most, until `stop` is called; then the line is erased. Where it was called within
-    /// the first tenth of a second, nothing is written.
+    /// Shows how far the jobs have come, on a line of a screen that it writes anew at most ten
+    /// times a second, until `stop` is called; then the line is erased. If it was called within the
+    /// first tenth of a second, nothing is written.
     ///
     /// A line that can't be made or written is left out.
     pub fn show<R: Wait + Clock, S: Write>(&self, rt: &R, alloc: Global, screen: &mut S) {
@@ -79,7 +79,7 @@ impl<'a> Watch<'a> {
         }
     }
 
-    /// Has `show` come to its end.
+    /// Ends `show`.
     pub fn stop<R: Wait>(&self, rt: &R) {
         self.noted.lock(rt).is_over = true;
         self.over.notify_all();
@@ -100,7 +100,7 @@ impl<'a> Watch<'a> {
         format!(in alloc; "{progress}")
     }
 
-    // Pauses, for less where the jobs end meanwhile. Whether they have ended.
+    // Pauses, for less if the jobs end meanwhile. Whether they have ended.
     fn is_over_soon<R: Wait + Clock>(&self, rt: &R) -> bool {
         let pause = Duration::from_millis(PAUSE);
         let (noted, _) = self
@@ -109,7 +109,7 @@ impl<'a> Watch<'a> {
         noted.is_over
     }
 
-    // Where a job is when it comes to this step.
+    // Returns the place of a job when it comes to this step.
     fn place_at(&self, job: u64, step: u64) -> Place {
         let Some(job) = self.jobs.get(job as usize) else {
             return Place::Elsewhere;
@@ -150,8 +150,8 @@ impl Noted {
         }
     }
 
-    // Notes that somebody has looked: who asks now waits at the next look, unless the job has gone
-    // on.
+    // Notes that somebody has looked: a job that asks now waits at the next look, unless it has
+    // gone on.
     fn look(&mut self) {
         for place in &mut self.places {
             if *place == Place::Asks {

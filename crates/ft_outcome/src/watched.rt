@@ -14,7 +14,7 @@ use std::time::Clock;
 /// Runs the jobs of a plan as `run_jobs` does, and meanwhile shows on a screen, if there is one,
 /// how far they have come.
 ///
-/// Where there is no memory or no thread to show it, it is not shown.
+/// If there is not enough memory or no thread to show it, it is not shown.
 pub fn run_shown<M: Manager, R: Threads + Wait + Clock + Sync, S: Write + Send + Drop>(
     rt: &R,
     alloc: Global,
@@ -52,7 +52,7 @@ fn run_watched<M: Manager, R: Threads + Wait + Clock + Sync, S: Write + Send + D
     JobsOutcome::compared(alloc, plan, core, run?)
 }
 
-// Runs them so, and answers what they report.
+// Runs them so, and returns what they report.
 fn report_watched<M: Manager, R: Threads + Wait + Clock + Sync, S: Write + Send + Drop>(
     rt: &R,
     alloc: Global,

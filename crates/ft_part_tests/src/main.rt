@@ -1,5 +1,5 @@
 //! Tests of the crates below the core, in one crate: a crate with tests is proved a second time
-//! with them. What the program's case files call is tested by these.
+//! with them. The program's case files test all that they call.
 #![tactic(auto)]
 
 #[cfg(test)]

@@ -1,4 +1,4 @@
-// What no clause says: printed text, and that long lists are joined at once.
+// No clause states this: printed text, and that long lists are joined at once.
 use ft_base::{Chains, Memory};
 use std::test::Fail;
 
@@ -33,7 +33,7 @@ fn fill(chains: &mut Chains<u64>, owner: u64) -> Result<(), Memory> {
     Ok(())
 }
 
-/// Puts the first of all numbers behind the others, 100,000 times.
+/// Puts the first of all numbers after the others, 100,000 times.
 fn turn_round(chains: &mut Chains<u64>) -> bool {
     for _ in 0..100_000 {
         if !join(chains, 1, 2) || !join(chains, 2, 1) || !chains.is_open(2) {

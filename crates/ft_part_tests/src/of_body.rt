@@ -11,7 +11,7 @@ fn holds(body: &Body, bytes: &[u8]) -> Result<bool, Memory> {
     Ok(read.as_slice() == bytes)
 }
 
-/// Whether these bytes, and no others of as many as asked for, stand at an offset.
+/// Whether these bytes, and no others of as many as asked for, are at an offset.
 fn shows(body: &Body, offset: u64, count: u64, bytes: &[u8]) -> Result<bool, Memory> {
     let read = body.read_at(offset, count)?;
     Ok(read.as_slice() == bytes)
@@ -69,7 +69,7 @@ fn has_two_pages(body: &Body) -> Result<bool, Memory> {
     Ok(body.pages() == 2 && body.len() == 1_048_576 && shows(body, 4_094, 4, b"\0ab\0")?)
 }
 
-/// Cuts a body at the end of its first page, lengthens it, and takes both back.
+/// Cuts a body at the end of its first page, lengthens it, and undoes both.
 fn cuts_and_lengthens(body: &mut Body) -> Result<bool, Memory>
     ensures { OnOk result (body.new ≡ body.old) }
 {

@@ -1,4 +1,4 @@
-// The limits, and what no clause says: printed text, and the numbers of faults.
+// The limits, and what no clause states: printed text, and the numbers of faults.
 use crate::of_path::is_printed;
 use ft_forest::{Forest, ForestFault, ForestLimits, TxnId};
 use std::test::Fail;
@@ -10,7 +10,7 @@ fn forests_are_full(rt: HostRuntime) -> Result<(), Fail> {
     Ok(())
 }
 
-/// Begins 100,000 transactions, and says whether there may not be one more.
+/// Begins 100,000 transactions, and returns whether there may not be one more.
 fn begin_all(forest: &mut Forest) -> Result<bool, ForestFault> {
     for _ in 0..100_000 {
         forest.begin()?;

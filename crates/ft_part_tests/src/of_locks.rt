@@ -34,7 +34,7 @@ impl Crowd {
         Ok(txn)
     }
 
-    /// The transactions in the way of one that asks for the cell.
+    /// The transactions that block one that asks for the cell.
     fn blockers(&self, txn: TxnId, mode: Mode, rule: Rule) -> Result<Vec<TxnId>, Memory> {
         let cell = Cell::Links(7);
         self.locks
@@ -91,7 +91,7 @@ fn many_lock_one_cell(rt: HostRuntime) -> Result<(), Fail> {
     Ok(())
 }
 
-/// Whether the writer is in the way of a reader, and all are in the way of another writer.
+/// Whether the writer blocks a reader, and all block another writer.
 fn is_blocked_by_the_crowd(crowd: &Crowd, txn: TxnId, rule: Rule) -> Result<bool, Memory> {
     let of_a_reader = crowd.blockers(txn, Mode::Read, rule)?;
     let of_a_writer = crowd.blockers(txn, Mode::Write, rule)?;
@@ -109,7 +109,7 @@ fn writer_among_many_ends(rt: HostRuntime) -> Result<(), Fail> {
     Ok(())
 }
 
-/// Whether nobody is in the way of a reader, and all but the writer are in that of a writer.
+/// Whether nobody blocks a reader, and all except the writer block a writer.
 fn is_blocked_by_the_readers(crowd: &Crowd, txn: TxnId, rule: Rule) -> Result<bool, Memory> {
     let of_a_reader = crowd.blockers(txn, Mode::Read, rule)?;
     let of_a_writer = crowd.blockers(txn, Mode::Write, rule)?;

@@ -58,7 +58,7 @@ fn last_of(logs: &mut Logs, txn: u64) -> Option<u64> {
     Some(stamp)
 }
 
-/// What takes back a call that changes nothing.
+/// The inverse of a call that changes nothing.
 fn undo_of_a_read(alloc: Global) -> Result<Undo, Memory> {
     let mut tree = Tree::new(alloc)?;
     undo_of(alloc, &mut tree, &Call::Read { fd: 9, len: 1 })

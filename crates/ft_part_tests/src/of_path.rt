@@ -1,4 +1,4 @@
-// Paths and their limits by outside examples, and what no clause says: printed text, and the
+// Paths and their limits by outside examples, and what no clause states: printed text, and the
 // numbers of faults. What has a destructor is held by the test alone; helpers take it by reference.
 use ft_base::Memory;
 use ft_path::{Errno, FilePath, Name, Parts, PartsFault, PathFault};
@@ -72,7 +72,7 @@ fn have_numbers() -> bool {
     PathFault::Memory as u8 == 1 && PathFault::NulByte as u8 == 2
 }
 
-// Whether want of memory is the fault of that name.
+// Whether lack of memory is the fault of that name.
 fn are_of_memory() -> bool {
     PathFault::from(Memory) == PathFault::Memory && PartsFault::from(Memory) == PartsFault::Memory
 }

@@ -1,5 +1,5 @@
-// What `perform` answers and does, what `revert` takes back on a copy, and which cells are touched,
-// by worked rows. Call by call they are played by case files.
+// What `perform` answers and does, what `revert` undoes on a copy, and which cells are touched, by
+// worked rows. Call by call they are played by case files.
 ghost use Rattle.std.specs.Prelude.{◌≢◌, ◌≤◌, ℕ, OnOk};
 ghost use Rattle.ft_tree.specs.Sound.{AreSoundCells, IsFree};
 
@@ -16,7 +16,7 @@ use std::test::Fail;
 enum CallRef<'a> {
     Mkdir(&'a [u8]),
     Stat(&'a [u8]),
-    /// To read and write, and made where it is not there.
+    /// To read and write, and made if it is not there.
     Open(&'a [u8]),
     Close(u64),
     Write(u64, &'a [u8]),
@@ -48,7 +48,7 @@ enum ReplyRef<'a> {
     Bytes(&'a [u8]),
     /// A kind, a number, its links and its size.
     Info(Kind, u64, u64, u64),
-    /// The attributes and the time, where they are told.
+    /// The attributes and the time, if they are told.
     Attributes(Option<Attributes>, Option<Timestamp>),
     Failed(Errno),
 }
@@ -175,7 +175,7 @@ fn is_reply(reply: &Reply, wanted: ReplyRef) -> bool {
 }
 
 /// Makes calls one after another on a new tree, with stamps from 2 on. Fails at the first that
-/// cannot be taken back, or is not answered as it says.
+/// cannot be undone, or is not answered as it says.
 fn make_calls(alloc: Global, calls: &[(CallRef, ReplyRef)]) -> Result<(), Fail> {
     let mut tree = Tree::new(alloc)?;
     make_calls_on(alloc, &mut tree, calls)
@@ -195,7 +195,7 @@ fn make_calls_on(alloc: Global, tree: &mut Tree, calls: &[(CallRef, ReplyRef)]) 
     Ok(())
 }
 
-/// Makes a call, and says whether it can be taken back and is answered so.
+/// Makes a call, and returns whether it can be undone and is answered so.
 fn plays(
     alloc: Global,
     tree: &mut Tree,
@@ -229,7 +229,7 @@ fn answers(
     Ok(is_reply(&reply, wanted))
 }
 
-/// Whether a call on a copy of the tree, made and taken back, leaves the rows of the tree.
+/// Whether a call on a copy of the tree, made and undone, leaves the rows of the tree.
 fn is_taken_back(alloc: Global, tree: &Tree, stamp: u64, call: &Call) -> Result<bool, Memory>
     requires sound { AreSoundCells tree.now }
     requires free { IsFree tree.now stamp }

@@ -1,4 +1,5 @@
--- What a line of a plan says. (The format of plans is this project's own: docs/SCRIPT.md, Plans.)
+-- The meaning of a line of a plan. (The format of plans is this project's own: docs/SCRIPT.md,
+-- Plans.)
 use Rattle.std.specs.Prelude.{◌==◌, ◌||◌, ◌&&◌, ℕ, Bool, false, nat_le, List, [], ◌∷◌, length, codes, if◌then◌else◌, Option, None, Some, option_and_then, option_map}
 use Rattle.std.specs.Char.{is_ascii_digit, is_ascii_lowercase}
 use Rattle.std.specs.List.{list_all}
@@ -17,7 +18,7 @@ use Rattle.ft_plan.specs.declared.job.Step.TheVariants.{Call, CallOn, Try, TryOn
 use Rattle.ft_plan.specs.declared.line.PlanLine.{PlanLine}
 use Rattle.ft_plan.specs.declared.line.PlanLine.TheVariants as line
 
--- BadPlan for words that spell nothing, Memory where memory was wanting
+-- BadPlan for words that spell nothing, Memory if there is not enough memory
 abbrev pub fault_from : Unread → JobFault
 fault_from Misspelt = faults.BadPlan
 fault_from NoMemory = faults.Memory
@@ -30,7 +31,7 @@ is_name_byte b = is_ascii_lowercase b || is_ascii_digit b || (b == 95) || (b == 
 abbrev pub is_job_name : List ℕ → Bool
 is_job_name word = nat_le 1 (length word) && nat_le (length word) 32 && list_all is_name_byte word
 
--- the word, where it is a name
+-- the word, if it is a name
 abbrev pub job_name_of : List ℕ → Option (List ℕ)
 job_name_of word = if is_job_name word then Some word else None
 
@@ -40,24 +41,24 @@ job_name_of word = if is_job_name word then Some word else None
 abbrev pub subheading : JobKind → List ℕ → List ℕ → Option PlanLine
 subheading kind name parent = option_and_then (λ n. option_map (λ p. line.Job n (Some p) kind) (job_name_of parent)) (job_name_of name)
 
--- a name, and at most one more, that of the job which it stands under
+-- a name, and at most one more, that of the job which is around it
 abbrev pub heading : JobKind → List ℕ → List (List ℕ) → Option PlanLine
 heading kind name [] = option_map (λ n. line.Job n None kind) (job_name_of name)
 heading kind name (parent ∷ []) = subheading kind name parent
 heading kind name (parent ∷ other ∷ words) = None
 
--- behind `must`: both names
+-- after `must`: both names
 abbrev pub must_line : List (List ℕ) → Option PlanLine
 must_line [] = None
 must_line (name ∷ []) = None
 must_line (name ∷ parent ∷ []) = subheading Must name parent
 must_line (name ∷ parent ∷ other ∷ words) = None
 
--- behind `job` in a strict plan
+-- after `job` in a strict plan
 abbrev pub strict_job_line : List ℕ → List (List ℕ) → Option PlanLine
 strict_job_line word words = if bytes_eq word (codes "must") then must_line words else heading Strict word words
 
--- behind `job`
+-- after `job`
 abbrev pub job_line : Bool → List (List ℕ) → Option PlanLine
 job_line strict [] = None
 job_line strict (word ∷ words) = if strict then strict_job_line word words else heading Free word words
@@ -74,27 +75,27 @@ abbrev pub line_after : List (List ℕ) → Option PlanLine
 line_after [] = None
 line_after (name ∷ names) = Some (line.After (name ∷ names))
 
--- behind `after`
+-- after `after`
 abbrev pub after_line : List (List ℕ) → Option PlanLine
 after_line words = option_and_then line_after (names_of words)
 
 -- ---- steps
 
--- `subs`, `commit` and `abort`, which stand alone on their line
+-- `subs`, `commit` and `abort`, each the only word of its line
 abbrev pub lone_steps : List (List ℕ × Step)
 lone_steps = (codes "subs", Subs) ∷ (codes "commit", Commit) ∷ (codes "abort", Abort) ∷ []
 
--- the step, where nothing stands behind its word
+-- the step, if nothing comes after its word
 abbrev pub alone : List (List ℕ) → Step → Option Step
 alone [] step = Some step
 alone (word ∷ words) step = None
 
--- A call in which `@` and the number of a step stand in place of the descriptor: it is read as
--- the call on the descriptor of that number, and told apart as `CallOn`.
+-- A call with `@` and the number of a step in place of the descriptor: it is read as the call on
+-- the descriptor of that number, and marked as `CallOn`.
 abbrev pub on_opened : List ℕ → List (List ℕ) → Option Step
 on_opened name words = option_map CallOn (option_and_then (read_by descriptor_calls name) (stripped 64 words))
 
--- a call, as `on_opened` or as it stands in a script
+-- a call, as `on_opened` or as in a script
 abbrev pub call_step : List ℕ → List (List ℕ) → Option Step
 call_step name words = option_map_or Some (on_opened name words) (option_map Call (call_of name words))
 
@@ -102,27 +103,27 @@ call_step name words = option_map_or Some (on_opened name words) (option_map Cal
 abbrev pub plain_step : List ℕ → List (List ℕ) → Option Step
 plain_step word others = option_map_or (alone others) (look_up lone_steps word) (call_step word others)
 
--- the step where its call may fail
+-- the step if its call may fail
 abbrev pub tried : Step → Step
 tried (Call call) = Try call
 tried (CallOn call) = TryOn call
 tried step = step
 
--- behind `try`: a call
+-- after `try`: a call
 abbrev pub tried_step : List (List ℕ) → Option Step
 tried_step [] = None
 tried_step (word ∷ others) = option_map tried (call_step word others)
 
--- a step; in a strict plan `try` may stand before a call
+-- a step; in a strict plan `try` may come before a call
 abbrev pub step_of : Bool → List ℕ → List (List ℕ) → Option Step
 step_of strict word others = if strict && bytes_eq word (codes "try") then tried_step others else plain_step word others
 
--- what a line says that begins no job: what the job comes after, in a strict plan, or a step
+-- a line that begins no job: what the job comes after, in a strict plan, or a step
 abbrev pub inner_line : Bool → List ℕ → List (List ℕ) → Option PlanLine
 inner_line strict word others = if strict && bytes_eq word (codes "after") then after_line others else option_map line.Step (step_of strict word others)
 
--- What the words of a line of a plan say; `None` where they say nothing. Some words say something
--- in a strict plan alone.
+-- The meaning of the words of a line of a plan; `None` if they have none. Some words have a meaning
+-- only in a strict plan.
 abbrev pub line_of : Bool → List (List ℕ) → Option PlanLine
 line_of strict [] = None
 line_of strict (word ∷ others) = if bytes_eq word (codes "job") then job_line strict others else inner_line strict word others
@@ -135,8 +136,8 @@ is_strict_line [] = false
 is_strict_line (word ∷ []) = bytes_eq word (codes "strict")
 is_strict_line (word ∷ other ∷ words) = false
 
--- The lines behind that one, where all before it are silent; `None` where another says something
--- first, or none does.
+-- The lines after that one, if all before it are silent; `None` if another says something first, or
+-- none does.
 abbrev pub behind_strict : List (List ℕ) → Option (List (List ℕ))
 behind_strict [] = None
 behind_strict (bytes ∷ lines) = option_map_or (λ words. if is_strict_line words then Some lines else None) (words_of_line bytes) (behind_strict lines)

@@ -16,49 +16,49 @@ abbrev pub HasBegun : List Job → Option Begun → Type 0
 HasBegun ended None = ended ≡ []
 HasBegun ended (Some begun) = Unit {0}
 
--- where a line may stand
+-- the place of a line
 pub data Place : Type 0 where
   -- before the first job
   Ahead : Place
-  -- behind the line that begins a job
+  -- after the line that begins a job
   Opened : Place
-  -- further behind it
+  -- further after it
   Within : Place
 
--- where the next line stands
+-- the place of the next line
 abbrev pub place_behind : PlanLine → Place
 place_behind (line.Job name parent kind) = Opened
 place_behind (line.After names) = Within
 place_behind (line.Step step) = Within
 
--- where the next line stands behind these
+-- the place of the next line after these
 abbrev pub place_after : Place → List PlanLine → Place
 place_after place [] = place
 place_after place (first ∷ lines) = place_after (place_behind first) lines
 
--- a step stands in a job
+-- a step is in a job
 abbrev pub takes_step : Place → Bool
 takes_step Ahead = false
 takes_step Opened = true
 takes_step Within = true
 
--- what a job comes after stands on the line behind the one that begins it
+-- what a job comes after is on the line after the one that begins it
 abbrev pub takes_after : Place → Bool
 takes_after Ahead = false
 takes_after Opened = true
 takes_after Within = false
 
--- the line may stand there
+-- the line may be there
 abbrev pub fits : Place → PlanLine → Bool
 fits place (line.Job name parent kind) = true
 fits place (line.After []) = false
 fits place (line.After (name ∷ names)) = takes_after place
 fits place (line.Step step) = takes_step place
 
--- a line that may not stand behind these
+-- a line that may not come after these
 abbrev pub IsStray : List PlanLine → PlanLine → Type 0
 IsStray lines next = fits (place_after Ahead lines) next ≡ false
 
--- what lines say behind others
+-- the meaning of lines after others
 abbrev pub behind_all : List PlanLine → Option (List PlanLine) → Option (List PlanLine)
 behind_all so_far more = option_map (λ lines. so_far ++ lines) more

@@ -1,4 +1,4 @@
--- What a plan is. (The format of plans is this project's own: docs/SCRIPT.md, Plans.)
+-- The definition of a plan. (The format of plans is this project's own: docs/SCRIPT.md, Plans.)
 use Rattle.std.specs.Prelude.{◌≡◌, ◌==◌, ◌&&◌, not, ℕ, zero, suc, Bool, true, false, nat_le, List, [], ◌∷◌, ◌++◌, length, if◌then◌else◌, Option, None, Some, option_map, option_and_then, map}
 use Rattle.std.specs.List.{flat_map, list_all, list_any, slice_get, count_by}
 use Rattle.std.specs.Option.{option_map_or}
@@ -18,17 +18,17 @@ use Rattle.ft_plan.specs.Lines.{line_of, behind_strict}
 
 -- ---- how a plan is written
 
--- what the lines say, silent ones left out; `None` where one of the others says nothing
+-- the meaning of the lines, silent ones left out; `None` if one of the others has none
 abbrev pub said : Bool → List (List ℕ) → Option (List PlanLine)
 said strict [] = Some []
 said strict (bytes ∷ lines) =
     option_map_or (λ words. option_and_then (λ first. option_map (λ more. first ∷ more) (said strict lines)) (line_of strict words)) (words_of_line bytes) (said strict lines)
 
--- the same of all lines of a plan, the one left out that says that it is strict
+-- the same of all lines of a plan, the one left out by which it is strict
 abbrev pub plan_said : List (List ℕ) → Option (List PlanLine)
 plan_said lines = option_map_or (said true) (behind_strict lines) (said false lines)
 
--- the line that says what a job comes after, if it does
+-- the line of the jobs that a job comes after, if there is one
 abbrev pub after_lines : List (List ℕ) → List PlanLine
 after_lines [] = []
 after_lines (name ∷ names) = line.After (name ∷ names) ∷ []
@@ -58,7 +58,7 @@ abbrev pub all_behind : {A : Type 0} → (List A → A → Bool) → List A → 
 all_behind test before [] = true
 all_behind test before (x ∷ xs) = test before x && all_behind test (before ++ x ∷ []) xs
 
--- two jobs stand under the same one, or both under none
+-- two jobs are under the same one, or both under none
 abbrev pub is_same_parent : Option (List ℕ) → Option (List ℕ) → Bool
 is_same_parent None None = true
 is_same_parent (Some name) (Some other) = bytes_eq name other
@@ -141,7 +141,7 @@ is_on_opened before (steps.CallOn call) = option_map_or is_open (step_at before 
 is_on_opened before (steps.TryOn call) = option_map_or is_open (step_at before (descriptor call)) false
 is_on_opened before step = true
 
--- Among these jobs: it starts its subjobs in just one step where it has any, and else in none.
+-- Among these jobs: it starts its subjobs in exactly one step if it has any, and else in none.
 abbrev pub starts_subjobs : List Job → Job → Bool
 starts_subjobs jobs job = count_by is_subs job.steps == (if list_any (is_subjob_of job.name) jobs then 1 else 0)
 
@@ -155,16 +155,17 @@ is_job jobs job = ends_last job.steps && (all_behind is_on_opened [] job.steps &
 abbrev pub is_free : Job → Bool
 is_free job = is_free_kind job.kind
 
--- the most jobs of a plan: fewer where one of them is free
+-- the most jobs of a plan: fewer if one of them is free
 abbrev pub most_jobs : List Job → ℕ
 most_jobs jobs = if list_any is_free jobs then 64 else 4096
 
--- 1 to 64 jobs, or 4,096 where all are strict, each opened by those before it, and with the steps
--- that it may have
+-- 1 to 64 jobs, or 4,096 if all are strict, each opened by those before it, and with the steps that
+-- it may have
 abbrev pub is_plan : List Job → Bool
 is_plan jobs = (nat_le 1 (length jobs) && nat_le (length jobs) (most_jobs jobs)) && (all_behind is_opened [] jobs && list_all (is_job jobs) jobs)
 
--- The bytes are at most 8,388,608, their lines say just these jobs, and the jobs are a plan.
+-- The bytes are at most 8,388,608, their lines are those of exactly these jobs, and the jobs are a
+-- plan.
 pub record IsPlanOf (bytes : List ℕ) (jobs : List Job) : Type 0 where
   pub size : nat_le (length bytes) LONGEST_PLAN ≡ true
   pub lines : plan_said (lines_of bytes) ≡ Some (plan_lines jobs)

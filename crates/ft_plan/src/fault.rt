@@ -10,7 +10,7 @@ pub enum JobFault {
     /// There was no memory left.
     #[error("Memory")]
     Memory = 1,
-    /// The bytes are no plan. From `Plan::read` alone.
+    /// The bytes are no plan. Only `Plan::read` returns it.
     #[error("BadPlan")]
     BadPlan = 2,
     /// The reports are not what happened.

@@ -10,23 +10,23 @@ pub struct Job {
     pub name: JobName,
     /// The job that it is a subjob of, if it is one.
     pub parent: Option<JobName>,
-    /// What is asked of it.
+    /// Whether its calls must do what they request.
     pub kind: JobKind,
-    /// The jobs that have to have committed before it starts, beside it in the same job.
+    /// The jobs that must have committed before it starts, alongside it in the same job.
     pub after: Sequence<JobName>,
-    /// What it does, step by step. The first step has the number 1.
+    /// Its steps, in their order. The first step has the number 1.
     pub steps: Sequence<Step>,
 }
 
-/// What is asked of a job.
+/// The kind of a job: whether its calls must do what they request.
 #[derive(Clone, Copy, Debug, PartialEq, Eq)]
 pub enum JobKind {
     /// Its calls may fail.
     Free,
-    /// Each of its calls has to do what it asks for, or may fail where it is tried.
+    /// Each of its calls must do what it requests, or may fail if it is tried.
     Strict,
-    /// So has each of this one, which takes the job around it along where it does not end as it is
-    /// meant to.
+    /// Each call of this one must too, and if it does not end as it is meant to, the job around it
+    /// ends with it.
     Must,
 }
 
@@ -35,8 +35,8 @@ pub enum JobKind {
 pub enum Step {
     /// A call.
     Call(Call),
-    /// A call on the descriptor that an earlier step of the job opened. The number of that step
-    /// stands in the call in place of the descriptor.
+    /// A call on the descriptor that an earlier step of the job opened. The call has the number of
+    /// that step in place of the descriptor.
     CallOn(Call),
     /// A call that may fail, in a strict job.
     Try(Call),

@@ -1,4 +1,4 @@
-//! Jobs that run side by side: the plan that says what they are.
+//! Jobs that run side by side: the plan that lists them.
 #![tactic(auto)]
 
 mod fault;

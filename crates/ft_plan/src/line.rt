@@ -1,4 +1,4 @@
-// What a line of a plan says.
+// The meaning of a line of a plan.
 ghost use Rattle.std.specs.Prelude.{◌≡◌, ◌&&◌, codes, if◌then◌else◌, Some, None, IfOk, IsErrOf};
 ghost use Rattle.std.specs.Str.{bytes_eq};
 ghost use Rattle.ft_words.specs.Calls.{Reads, look_up};
@@ -10,7 +10,7 @@ use ft_base::Sequence;
 use ft_words::{Unread, Words, call_of, descriptor_call_of};
 use std::alloc::Global;
 
-/// What a line of a plan says.
+/// The meaning of a line of a plan.
 #[derive(Debug, PartialEq, Eq, Drop)]
 pub enum PlanLine {
     /// A job of this name and kind begins, under that one if one is named.
@@ -21,7 +21,7 @@ pub enum PlanLine {
     Step(Step),
 }
 
-/// What the words of a line of a plan say, which is strict or is not.
+/// Returns the meaning of the words of a line of a plan, which is strict or is not.
 pub fn line_of(alloc: Global, strict: bool, words: Words<'_>) -> Result<PlanLine, Unread>
     ensures { Reads result (line_of strict words.entry) }
 {
@@ -37,8 +37,8 @@ pub fn line_of(alloc: Global, strict: bool, words: Words<'_>) -> Result<PlanLine
     Ok(PlanLine::Step(step))
 }
 
-// A job begins: its name, and that of the job which it stands under. In a strict plan `must` may
-// stand before both.
+// A job begins: its name, and that of the job which is around it. In a strict plan `must` may come
+// before both.
 fn job_line(alloc: Global, strict: bool, words: Words<'_>) -> Result<PlanLine, Unread>
     ensures { Reads result (job_line strict words.entry) }
 {
@@ -53,7 +53,7 @@ fn job_line(alloc: Global, strict: bool, words: Words<'_>) -> Result<PlanLine, U
     heading(alloc, JobKind::Strict, word, words)
 }
 
-// Behind `must` both names have to stand.
+// After `must` there must be both names.
 fn must_line(alloc: Global, words: Words<'_>) -> Result<PlanLine, Unread>
     ensures { Reads result (must_line words.entry) }
 {
@@ -90,7 +90,7 @@ fn subheading(alloc: Global, kind: JobKind, name: &[u8], parent: &[u8]) -> Resul
     Ok(PlanLine::Job(name, Some(parent), kind))
 }
 
-// The names of the jobs that have to have committed: one at least.
+// The names of the jobs that must have committed: one at least.
 fn after_line(alloc: Global, words: Words<'_>) -> Result<PlanLine, Unread>
     ensures { Reads result (after_line words.entry) }
 {
@@ -137,7 +137,7 @@ fn tried_step(alloc: Global, words: Words<'_>) -> Result<Step, Unread>
     Ok(tried(step))
 }
 
-// The step where its call may fail.
+// The step if its call may fail.
 fn tried(step: Step) -> Step
     ensures { result ≡ tried step }
 {
@@ -175,7 +175,7 @@ fn lone_step(word: &[u8]) -> Option<Step>
     }
 }
 
-// A call, which may stand on the descriptor that an earlier step opened.
+// A call, which may be on the descriptor that an earlier step opened.
 fn call_step(alloc: Global, name: &[u8], words: Words<'_>) -> Result<Step, Unread>
     ensures { Reads result (call_step name.now words.entry) }
 {

@@ -14,9 +14,9 @@ use ft_words::{Lines, Words};
 use std::alloc::Global;
 use std::marker::Model;
 
-/// The jobs that lines tell of.
+/// Returns the jobs that lines describe.
 ///
-/// Answers BadPlan where the lines are not those of any jobs.
+/// Returns BadPlan if the lines are not those of any jobs.
 pub fn jobs_of(alloc: Global, text: &[u8]) -> Result<Vec<Job>, JobFault>
     ensures ok { IfOk result (λ jobs. plan_said (lines_of text.now) ≡ Some (plan_lines jobs.items)) }
     ensures bad { IsErrOf result JobFault.BadPlan → (jobs : List Job) → plan_said (lines_of text.now) ≡ Some (plan_lines jobs) → ⊥ }
@@ -28,7 +28,7 @@ pub fn jobs_of(alloc: Global, text: &[u8]) -> Result<Vec<Job>, JobFault>
     }
 }
 
-// The lines behind the one that says that a plan is strict, where all before it are silent.
+// The lines after the one by which a plan is strict, if all before it are silent.
 fn behind_strict(lines: Lines<'_>) -> Option<Lines<'_>>
     ensures { result ≡ behind_strict lines.entry }
 {
@@ -45,7 +45,7 @@ fn behind_strict(lines: Lines<'_>) -> Option<Lines<'_>>
     None
 }
 
-// Whether a line says that a plan is strict.
+// Whether a line makes a plan strict.
 fn is_strict_line(words: Words<'_>) -> bool
     ensures { result ≡ is_strict_line words.entry }
 {
@@ -55,7 +55,7 @@ fn is_strict_line(words: Words<'_>) -> bool
     }
 }
 
-// The jobs that the lines of a plan tell of, which is strict or is not.
+// The jobs that the lines of a plan describe, which is strict or is not.
 fn jobs_in(alloc: Global, strict: bool, lines: Lines<'_>) -> Result<Vec<Job>, JobFault>
     ensures ok { IfOk result (λ jobs. said strict lines.entry ≡ Some (plan_lines jobs.items)) }
     ensures bad { IsErrOf result JobFault.BadPlan → (jobs : List Job) → said strict lines.entry ≡ Some (plan_lines jobs) → ⊥ }
@@ -88,7 +88,7 @@ impl Begun {
         Ok(())
     }
 
-    // Whether no line stands behind the one that begins it.
+    // Whether no line comes after the one that begins it.
     fn is_new(&self) -> bool
         ensures { IsTrue result ↔ ((self.now.after.items ≡ []) × (self.now.steps.items ≡ [])) }
     {
@@ -140,7 +140,7 @@ impl Jobs {
         }
     }
 
-    // Takes what the next line says.
+    // Takes the meaning of the next line.
     #[tactic(auto, using(crate::proofs::Grouping::said_silent, crate::proofs::Grouping::said_more))]
     fn read(&mut self, alloc: Global, strict: bool, line: &[u8]) -> Result<(), JobFault>
         ensures ok { OnOk result ((lines : List (List ℕ)) → behind_all self.old (said strict (line.now ∷ lines)) ≡ behind_all self.new (said strict lines)) }
@@ -154,8 +154,8 @@ impl Jobs {
         self.take(said)
     }
 
-    // Takes the next line. A step that no job stands before is no plan, and neither is a line on
-    // what a job comes after that does not stand behind the one that begins it.
+    // Takes the next line. A step before the first job is no plan. Neither is a line of what a job
+    // comes after, unless it is right after the one that begins the job.
     fn take(&mut self, line: PlanLine) -> Result<(), JobFault>
         ensures ok { OnOk result (self.new ≡ self.old ++ line ∷ []) }
         ensures bad { IsErrOf result JobFault.BadPlan → IsStray self.old line }
@@ -216,7 +216,7 @@ impl Jobs {
         Ok(())
     }
 
-    // All jobs, where no line follows.
+    // All jobs, if no line follows.
     fn end(self) -> Result<Vec<Job>, Memory>
         ensures { IfOk result (λ jobs. plan_lines jobs.items ≡ self) }
     {

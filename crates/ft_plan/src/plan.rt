@@ -13,12 +13,12 @@ use std::marker::Model;
 /// The most bytes of a plan.
 pub const LONGEST_PLAN: usize = 8_388_608;
 
-/// What jobs there are, in their order, and what each does. Clauses see it as the list of its jobs.
+/// The jobs, in their order, with the steps of each. Clauses see it as the list of its jobs.
 ///
-/// There are 1 to 64 jobs, with names of their own; a subjob stands behind its parent. The last
-/// step of each job is a commit or an abort, and no other is; a job that has subjobs starts them in
-/// just one step, any other in none. A call on what a step opened is on what an earlier `open` of
-/// the same job opened.
+/// There are 1 to 64 jobs, with names of their own; a subjob comes after its parent. The last step
+/// of each job is a commit or an abort, and no other is; a job that has subjobs starts them in
+/// exactly one step, any other in none. A call on what a step opened is on what an earlier `open`
+/// of the same job opened.
 #[derive(Debug, Drop)]
 pub struct Plan {
     jobs: Sequence<Job>,
@@ -37,9 +37,9 @@ impl Model for Plan {
 }
 
 impl Plan {
-    /// The plan that these bytes are (docs/SCRIPT.md, plans).
+    /// Returns the plan that these bytes are (docs/SCRIPT.md, plans).
     ///
-    /// Answers BadPlan just where they are none: at most 8,388,608 bytes are a plan. Any other
+    /// Returns BadPlan exactly if they are none: at most 8,388,608 bytes are a plan. Any other
     /// fault is Memory.
     #[tactic(auto, using(crate::proofs::Grouping::only_plan))]
     pub fn read(alloc: Global, text: &[u8]) -> Result<Plan, JobFault>

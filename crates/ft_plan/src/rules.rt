@@ -58,7 +58,7 @@ fn are_jobs(jobs: &[Job]) -> bool
     jobs.iter().all(|job| is_job(jobs, job))
 }
 
-// Whether each job has a name of its own, and stands under one before it if it names one.
+// Whether each job has a name of its own, and is under one before it if it names one.
 #[tactic(auto, using(crate::proofs::Behind::behind_next))]
 fn are_opened(jobs: &[Job]) -> bool
     ensures { result ≡ all_behind is_opened [] jobs.now }
@@ -71,7 +71,7 @@ fn are_opened(jobs: &[Job]) -> bool
     true
 }
 
-// The same of one job behind others.
+// The same of one job after others.
 fn is_opened(before: &[Job], job: &Job) -> bool
     ensures { result ≡ is_opened before.now job.now }
 {
@@ -83,7 +83,7 @@ fn is_opened(before: &[Job], job: &Job) -> bool
         && comes_after(before, job)
 }
 
-// Whether each job that this one comes after is one of these, and stands under the same one.
+// Whether each job that this one comes after is one of these, and is under the same one.
 fn comes_after(before: &[Job], job: &Job) -> bool
     ensures { result ≡ comes_after before.now job.now }
 {
@@ -93,14 +93,14 @@ fn comes_after(before: &[Job], job: &Job) -> bool
         .all(|name| has_sibling(before, job, name.as_bytes()))
 }
 
-// Whether one of the jobs has this name, and stands under the same one as this job.
+// Whether one of the jobs has this name, and is under the same one as this job.
 fn has_sibling(before: &[Job], job: &Job, name: &[u8]) -> bool
     ensures { result ≡ list_any (is_sibling job.now.parent name.now) before.now }
 {
     before.iter().any(|other| other.name.as_bytes() == name && is_same_parent(other, job))
 }
 
-// Whether two jobs stand under the same one, or both under none.
+// Whether two jobs are under the same one, or both under none.
 fn is_same_parent(job: &Job, other: &Job) -> bool
     ensures { result ≡ is_same_parent job.now.parent other.now.parent }
 {
@@ -217,7 +217,7 @@ fn are_on_opened(steps: &[Step]) -> bool
     true
 }
 
-// The same of one step behind others.
+// The same of one step after others.
 fn is_on_opened(before: &[Step], step: &Step) -> bool
     ensures { result ≡ is_on_opened before.now step.now }
 {

@@ -1,4 +1,4 @@
-// A thread that reads beside jobs.
+// A thread that reads alongside jobs.
 ghost use Rattle.std.specs.Prelude.{◌≡◌};
 ghost use Rattle.ft_shared.specs.Opening.{named_by};
 
@@ -16,7 +16,7 @@ use std::time::{Clock, Duration};
 /// How often each call is asked for at most, and how often the reader looks.
 const TURNS: u64 = 10_000;
 
-/// What a reader saw last.
+/// The last view that a reader saw.
 #[derive(Clone, Copy)]
 pub struct Seen {
     pub calls: u64,
@@ -33,13 +33,13 @@ impl<'a, J: Sharing + Sync> Gate for Publishing<'a, J> {
     fn pass<R: Wait + Clock>(&self, _rt: &R, _job: u64, _step: u64) {}
 
     fn ended<R: Wait + Clock>(&self, rt: &R, _job: u64) {
-        // Where there is no memory for it, the next one publishes this too.
+        // If there is not enough memory for it, the next one publishes this too.
         let _ = self.shared.publish(rt);
     }
 }
 
-/// Runs the jobs of a plan, and beside them a thread that reads what they have published. Answers
-/// how many jobs have ended, and what was read last.
+/// Runs the jobs of a plan, and alongside them a thread that reads what they have published.
+/// Returns how many jobs have ended, and what was read last.
 pub fn read_beside<J: Sharing + Send + Sync, R: Threads + Wait + Clock + Sync>(
     rt: &R,
     alloc: Global,
@@ -97,7 +97,7 @@ fn look<J: Sharing, R: Wait + Clock>(
     list(&mut reader, &root)
 }
 
-/// What the reader sees now.
+/// Returns what the reader sees now.
 fn list<J: Sharing>(reader: &mut Reader<ViewsOf<J>>, path: &FilePath) -> Result<Seen> {
     let (calls, Reply::Names(names)) = reader.list(path)? else {
         bail!("there is no such directory");

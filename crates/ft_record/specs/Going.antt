@@ -3,8 +3,8 @@ use Rattle.std.specs.Prelude.{◌≡◌}
 use mathlib.Core.List.{IsPrefix}
 use Rattle.ft_core.specs.States.{State}
 
--- The base, the rule and the limits are the same, and what had happened stands first among what has
--- happened. So it is after all requests but a checkpoint.
+-- The base, the rule and the limits are the same, and the earlier events come first among the
+-- events. This holds after all requests except a checkpoint.
 pub record GoesOn (from s : State) : Type 0 where
   pub base : s.base ≡ from.base
   pub rule : s.rule ≡ from.rule

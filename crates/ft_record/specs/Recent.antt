@@ -1,5 +1,4 @@
--- What a core that keeps what has happened since it last forgot is seen as, and what it keeps true
--- of itself.
+-- A core that keeps the events since it last forgot: its view, and its invariant.
 use Rattle.std.specs.Prelude.{◌≡◌, ◌≤◌, ◌+◌, ℕ, Bool, ◌&&◌, List, [], length, drop, is_some, Option, Some, None, refl}
 use Rattle.std.specs.Coded.{Coded, code_by, coded×, coded_ℕ}
 use Rattle.std.specs.declared.snapshot.Snapshot.{Snapshot}
@@ -21,7 +20,7 @@ pub record Remembered : Type 0 where
 abbrev pub coded_remembered : Coded Remembered
 coded_remembered = code_by (StoredState × ℕ) (coded× coded_stored coded_ℕ) (λ r. (r.core, r.forgotten)) (λ p. record { core = p.0; forgotten = p.1 }) (λ _. refl)
 
--- what had happened on a core, nothing where there was none
+-- what had happened on a core, nothing if there was none
 abbrev pub events_then : Option (Snapshot StoredState) → List Event
 events_then None = []
 events_then (Some core) = core.value.state.events
@@ -39,9 +38,9 @@ is_owned h c = is_standing posix_calls h c && is_some (owner_of posix_calls h c.
 abbrev pub events_kept : ℕ → History → ℕ
 events_kept first h = length (passing (λ t. is_live (fate posix_calls first h t)) (begun posix_calls h)) + length (passing (is_owned h) (grants posix_calls h))
 
--- how many calls cannot be taken back any more once a transaction with this parent has committed,
--- which owns so many: at the top level all of them, and else none, since its parent owns them then
--- (Moss: at a commit the parent inherits)
+-- how many calls can no longer be undone once a transaction with this parent has committed, which
+-- owns so many: at the top level all of them, and else none, since its parent owns them then (Moss:
+-- at a commit the parent inherits)
 abbrev pub freed_below : Option ℕ → ℕ → ℕ
 freed_below None owned = owned
 freed_below (Some p) owned = 0
@@ -50,7 +49,7 @@ freed_below (Some p) owned = 0
 abbrev pub freed_by_commit : State → ℕ → ℕ
 freed_by_commit s t = freed_below (parent posix_calls (history s) t) (count_owned s t)
 
--- The events that are kept are those of the state but for the forgotten ones; the state was reached
+-- The events that are kept are those of the state except the forgotten ones; the state was reached
 -- by legal ones; and there are just as many places as events that may still end or undo something.
 pub record IsRecent (s : State) (r : Recording) (forgotten : ℕ) : Type 0 where
   pub events : r.events ≡ drop forgotten s.events

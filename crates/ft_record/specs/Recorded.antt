@@ -1,4 +1,4 @@
--- What a core that keeps what has happened keeps true of itself.
+-- The invariant of a core that keeps the events.
 use Rattle.std.specs.Prelude.{◌≡◌, ◌≤◌}
 use Rattle.ft_cells.specs.Cells.{Cells}
 use Rattle.ft_tree.specs.Tidy.{tidy}

@@ -1,4 +1,4 @@
--- What a record is seen as: the events, and places for more of them.
+-- The contents of a record as clauses see them: the events, and places for more of them.
 use Rattle.std.specs.Prelude.{ℕ, ◌+◌, ◌-◌, List, [], ◌∷◌, ◌++◌, Some, None, IsSome, refl}
 use Rattle.std.specs.Coded.{Coded, code_by, coded×, coded_ℕ, coded_list}
 use Rattle.ft_core.specs.declared.request.Event.{Event}
@@ -32,7 +32,7 @@ abbrev pub HasReplyTwice : FullOutcome → Type 0
 HasReplyTwice (full.Granted k call reply kept accesses) = IsSome kept
 HasReplyTwice (full.Waits blockers) = Unit {0}
 
--- a call that t asked for is told, if it was made
+-- a call that t asked for is recorded, if it was made
 abbrev pub with_outcome : Recording → ℕ → FullOutcome → Recording
 with_outcome r t (full.Granted k call reply None accesses) = r
 with_outcome r t (full.Granted k call reply (Some kept) accesses) = with_new r (CallEvent k t call kept accesses.items)

@@ -1,4 +1,4 @@
-//! What is true of every core, as the contract of a function that does nothing.
+//! Laws of every core, each as the contract of a function that does nothing.
 ghost use Rattle.ft_core.specs.Reached.{IsReached};
 
 use crate::recorded::Recorded;

@@ -85,7 +85,7 @@ impl Recent {
         &self.core
     }
 
-    /// What has happened since it last forgot, in order.
+    /// Returns the events since it last forgot, in order.
     pub fn events(&self) -> &[Event]
         ensures { result.now ≡ drop self.now.forgotten self.now.core.state.events }
     {
@@ -126,7 +126,7 @@ impl Recent {
         Ok(child)
     }
 
-    /// Makes a call in a transaction, or answers which transactions it waits for, as `Core::ask`
+    /// Makes a call in a transaction, or returns which transactions it waits for, as `Core::ask`
     /// does.
     pub fn ask(&mut self, txn: TxnId, call: Call) -> Result<Outcome, Fault>
         ensures step { IsStep exact_rule self.old.core.state (Ask txn call) (answer_with outcome_answer result) self.new.core.state }
@@ -148,7 +148,7 @@ impl Recent {
         self.ask(txn, copy)
     }
 
-    /// Makes the call that a transaction waits for, or answers again which transactions it waits
+    /// Makes the call that a transaction waits for, or returns again which transactions it waits
     /// for, as `Core::retry` does.
     pub fn retry(&mut self, txn: TxnId) -> Result<Outcome, Fault>
         ensures step { IsStep exact_rule self.old.core.state (Retry txn) (answer_with outcome_answer result) self.new.core.state }
@@ -180,7 +180,7 @@ impl Recent {
         Ok(())
     }
 
-    /// How many calls cannot be taken back any more once a transaction has committed: at the top
+    /// Returns how many calls can no longer be undone once a transaction has committed: at the top
     /// level those that it owns, and below it none.
     fn freed_by_commit(&self, txn: TxnId) -> u64
         ensures { result ≡ freed_by_commit self.now.core.state txn }
@@ -223,8 +223,7 @@ impl Recent {
         Ok(stamp)
     }
 
-    /// Makes the tree as it stands the base, and forgets what has happened, as `Core::checkpoint`
-    /// does.
+    /// Makes the present tree the base, and forgets what has happened, as `Core::checkpoint` does.
     pub fn checkpoint(&mut self) -> Result<(), Fault>
         ensures step { IsStep exact_rule self.old.core.state Checkpoint (answer_with (λ done. Cleared) result) self.new.core.state }
         ensures ok { OnOk result (self.new.forgotten ≡ 0) }

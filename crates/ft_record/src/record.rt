@@ -53,9 +53,9 @@ impl Record {
         self.events.as_slice()
     }
 
-    /// Makes the places of one more event, and of the one that ends or undoes it. Where they are
-    /// missing, an eighth of all is made besides, and not as many again: these places are large,
-    /// and many are kept free for ends and undos.
+    /// Makes the places of one more event, and of the one that ends or undoes it. If they are
+    /// missing, an eighth of all is also made, and not as many again: these places are large, and
+    /// many are kept free for ends and undos.
     pub(crate) fn reserve(&mut self) -> Result<(), Memory>
         ensures same { self.new ≡ record self.old { room = self.new.room } }
         ensures room { OnOk result (2 ≤ self.new.room) }
@@ -78,8 +78,7 @@ impl Record {
         self.spare += 1;
     }
 
-    /// Tells of a call that was asked for, if it was made, in a new place, and answers what became
-    /// of it.
+    /// Records a call that was requested, if it was made, in a new place, and returns its outcome.
     pub(crate) fn add_outcome(&mut self, txn: TxnId, outcome: FullOutcome) -> Outcome
         requires room { 2 ≤ self.old.room }
         requires twice { HasReplyTwice outcome }

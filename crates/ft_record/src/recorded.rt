@@ -56,8 +56,8 @@ impl Model for Recorded {
 }
 
 impl Recorded {
-    /// A core over the empty tree: the root alone. Its rule is `Rule::Profile`, and its limits are
-    /// the default ones.
+    /// Returns a core over the empty tree, which is only the root. Its rule is `Rule::Profile`, and
+    /// its limits are the default ones.
     pub fn new(alloc: Global) -> Result<Recorded, Memory>
         ensures { IfOk result (λ core. core.state ≡ first_state Profile default_limits) }
     {
@@ -72,9 +72,9 @@ impl Recorded {
         Recorded::of(core)
     }
 
-    /// A core over the empty tree that grants calls by this rule, with these limits.
+    /// Returns a core over the empty tree that grants calls by this rule, with these limits.
     ///
-    /// Refuses BadLimits where one of them is above the greatest, and then want of memory.
+    /// Refuses BadLimits if one of them is above the greatest, and then Memory.
     pub fn with(alloc: Global, rule: Rule, limits: Limits) -> Result<Recorded, Fault>
         ensures state { IfOk result (λ core. core.state ≡ first_state rule limits) }
         ensures within { OnOk result (are_within limits greatest_limits ≡ true) }
@@ -103,7 +103,7 @@ impl Recorded {
         recent.into_core()
     }
 
-    /// Where its memory comes from.
+    /// Returns the allocator of its memory.
     pub fn alloc(&self) -> Global {
         self.core().alloc()
     }
@@ -115,7 +115,7 @@ impl Recorded {
         self.core().rule()
     }
 
-    /// What the core allows. It never changes.
+    /// Returns the limits of the core. They never change.
     pub fn limits(&self) -> Limits
         ensures are { result ≡ limits_of self.now.state }
         ensures within { are_within result greatest_limits ≡ true }
@@ -131,15 +131,15 @@ impl Recorded {
         self.core().has_live()
     }
 
-    /// What has become of a transaction, where there is one of this number since the base.
+    /// Returns the state of a transaction, if there is one of this number since the base.
     pub fn fate(&self, txn: TxnId) -> Option<State>
         ensures { fate_in result ≡ fate_of self.now.state txn }
     {
         self.core().fate(txn)
     }
 
-    /// The parent of a subtransaction; none of a top-level one, nor where there is no transaction
-    /// of this number since the base.
+    /// Returns the parent of a subtransaction; none of a top-level one, nor if there is no
+    /// transaction of this number since the base.
     pub fn parent(&self, txn: TxnId) -> Option<TxnId>
         ensures { result ≡ parent_of posix_calls (history self.now.state) txn }
     {
@@ -167,7 +167,7 @@ impl Recorded {
         self.recent.sub(txn)
     }
 
-    /// Makes a call in a transaction, or answers which transactions it waits for, as `Core::ask`
+    /// Makes a call in a transaction, or returns which transactions it waits for, as `Core::ask`
     /// does.
     pub fn ask(&mut self, txn: TxnId, call: Call) -> Result<Outcome, Fault>
         ensures { IsStep exact_rule self.old.state (Ask txn call) (answer_with outcome_answer result) self.new.state }
@@ -182,7 +182,7 @@ impl Recorded {
         self.recent.ask_copy(txn, call)
     }
 
-    /// Makes the call that a transaction waits for, or answers again which transactions it waits
+    /// Makes the call that a transaction waits for, or returns again which transactions it waits
     /// for, as `Core::retry` does.
     pub fn retry(&mut self, txn: TxnId) -> Result<Outcome, Fault>
         ensures { IsStep exact_rule self.old.state (Retry txn) (answer_with outcome_answer result) self.new.state }
@@ -224,8 +224,8 @@ impl Recorded {
         self.recent.undo_call(txn)
     }
 
-    /// Makes the tree as it stands the base, and forgets what has happened, as `Core::checkpoint`
-    /// does. Takes the memory and the time of a copy of the tree.
+    /// Makes the present tree the base, and forgets what has happened, as `Core::checkpoint` does.
+    /// Takes the memory and the time of a copy of the tree.
     pub fn checkpoint(&mut self) -> Result<(), Fault>
         ensures { IsStep exact_rule self.old.state Checkpoint (answer_with (λ done. Cleared) result) self.new.state }
     {
@@ -258,8 +258,9 @@ impl Recorded {
         self.core().tree()
     }
 
-    /// The tree of the base: the root alone, until a checkpoint. No number above the base's last
-    /// stamp stands in it, and that is no greater than `LAST_NUMBER`. No place in it is of no use.
+    /// Returns the tree of the base: only the root, until a checkpoint. No number above the base's
+    /// last stamp is in it, and that stamp is no greater than `LAST_NUMBER`. No place in it is of
+    /// no use.
     pub fn base(&self) -> &Tree
         ensures tree { tidy result.now ≡ self.now.state.base.tree }
         ensures base { IsBaseTree result.now self.now.state.base.last_stamp }
@@ -269,7 +270,7 @@ impl Recorded {
         &self.base
     }
 
-    /// What has happened since the base, in order: a legal history from a sound tree.
+    /// Returns the events since the base, in order: a legal history from a sound tree.
     pub fn history(&self) -> &[Event]
         ensures events { result.now ≡ self.now.state.events }
         ensures reached { IsReached self.now }

@@ -1,4 +1,4 @@
-// Requests to a core, and what is told of it before and behind one that is refused.
+// Requests to a core, and its description before and after one that is refused.
 use anyhow::{Result, bail};
 use ft_base::Memory;
 use ft_core::{Answer, Fault};
@@ -24,8 +24,8 @@ pub fn request_each<R: Print>(rt: &R, alloc: Global, mut core: Recorded) -> Resu
     Ok(())
 }
 
-/// The answer to a request. Where there is no memory for it, it is made once more; but nothing may
-/// have changed until then.
+/// Returns the answer to a request. If there is no memory for it, it is made once more; but nothing
+/// may have changed until then.
 fn answer_at_last<R: Print>(
     rt: &R,
     alloc: Global,
@@ -53,7 +53,7 @@ fn answer(alloc: Global, core: &mut Recorded, line: &[u8]) -> Result<Answer> {
     }
 }
 
-/// What is told of a core, where it is not refused twice.
+/// Returns the description of a core, if it is not refused twice.
 fn told_at_last<R: Print>(rt: &R, alloc: Global, core: &Recorded) -> Result<String> {
     match told(alloc, core) {
         Ok(text) => Ok(text),
@@ -64,7 +64,8 @@ fn told_at_last<R: Print>(rt: &R, alloc: Global, core: &Recorded) -> Result<Stri
     }
 }
 
-/// How many events a core has had, how many calls wait, who waits for whom, the locks, and the tree.
+/// Describes how many events a core has had, how many calls wait, which transaction waits for
+/// which, the locks, and the tree.
 fn told(alloc: Global, core: &Recorded) -> Result<String> {
     let events = core.history().len();
     let asks = core.core().pending()?.len();

@@ -1,4 +1,4 @@
-// What is done, and what is told of it.
+// The steps, and their output.
 ghost use Rattle.std.specs.Prelude.{◌≡◌};
 ghost use Rattle.ft_shared.specs.Opening.{named_by};
 
@@ -16,8 +16,8 @@ use std::sync::Wait;
 /// How many directories are made and published.
 const DIRECTORIES: u64 = 40;
 
-/// Makes directories and publishes each, and says after each how many calls are published, and how
-/// many names a reader sees then.
+/// Makes directories and publishes each, and prints after each how many calls are published, and
+/// how many names a reader sees then.
 pub fn publish_each<J: Sharing, R: Wait + Print>(
     rt: &R,
     alloc: Global,
@@ -49,7 +49,7 @@ fn through<J: Sharing, R: Wait + Print>(
     Ok(())
 }
 
-/// Makes a directory, and where that is refused once more.
+/// Makes a directory, and once more if that is refused.
 fn make_at_last<J: Sharing, R: Wait + Print>(
     rt: &R,
     alloc: Global,
@@ -63,7 +63,7 @@ fn make_at_last<J: Sharing, R: Wait + Print>(
     Ok(())
 }
 
-/// Makes a directory in a transaction of its own, which is aborted where that is refused.
+/// Makes a directory in a transaction of its own, which is aborted if that is refused.
 fn make<J: Sharing, R: Wait>(
     rt: &R,
     alloc: Global,
@@ -86,8 +86,8 @@ fn make<J: Sharing, R: Wait>(
     }
 }
 
-/// Publishes what has committed, and where that is refused tells what a reader sees then, and
-/// publishes once more. Answers how many calls are published.
+/// Publishes what has committed. If that is refused, it prints what a reader sees then, and
+/// publishes once more. Returns how many calls are published.
 fn publish_at_last<J: Sharing, R: Wait + Print>(
     rt: &R,
     shared: &Shared<J, Recent>,
@@ -105,7 +105,7 @@ fn publish_at_last<J: Sharing, R: Wait + Print>(
     }
 }
 
-/// How many names a reader sees, where it is not refused twice.
+/// Returns how many names a reader sees, if it is not refused twice.
 fn count_at_last<J: Sharing, R: Print>(
     rt: &R,
     reader: &mut Reader<ViewsOf<J>>,

@@ -1,4 +1,4 @@
--- What is written for a line. (The format is this project's own: docs/SCRIPT.md.)
+-- The text that is written for a line. (The format is this project's own: docs/SCRIPT.md.)
 use Rattle.std.specs.Prelude.{◌≡◌, ◌⊎◌, ℕ, List, [], ◌∷◌, ◌++◌, codes}
 use Rattle.ft_cells.specs.Rows.{rows_of}
 use Rattle.ft_moss.specs.declared.line.LockLine.{LockLine}
@@ -19,13 +19,13 @@ use Rattle.ft_replies.specs.Texts.{text_of}
 use Rattle.ft_words.specs.Texts.{tree_text}
 use Rattle.ft_replies.specs.Reports.{locks_text, attribute_locks_text, waits_text}
 
--- a legal step of the core, under its rule of who blocks whom
+-- a legal step of the core, under its rule of which transactions block a call
 abbrev pub IsLegal : State → Request → Answer → State → Type 0
 IsLegal = IsStep exact_rule
 
--- the text of a report, without the line feed behind it: for `tree`, of the rows of the tree of
--- the state; for `locks` and `attributes`, of the locks of its history in their order, each of the
--- two of those that it tells of; for `waits`, of its waits-for edges and a verdict on them
+-- the text of a report, without the line feed after it: for `tree`, of the rows of the tree of the
+-- state; for `locks` and `attributes`, of the locks of its history in their order, each of the two
+-- of its own locks; for `waits`, of its waits-for edges and a verdict on them
 abbrev pub IsReportText : State → Report → List ℕ → Type 0
 IsReportText s Tree text = text ≡ tree_text (rows_of (tree_of s))
 IsReportText s Locks text = (locks : List LockLine) × AreLockLines s locks × (text ≡ locks_text locks)
@@ -40,9 +40,9 @@ IsWholeReport s report text = (told : List ℕ) × IsReportText s report told ×
 abbrev pub IsReport : State → Report → List ℕ → Type 0
 IsReport s report text = IsWholeReport s report text ⊎ (text ≡ codes "refused Memory" ++ 10 ∷ [])
 
--- What is written for a line that is carried out, and the state then: nothing for a silent line;
--- and, each with a line feed, `bad line` for a bad one, the text of the answer of a legal step
--- for a request, and the text of a report. Only a request may change the state.
+-- The text that is written for a line that is carried out, and the state then: nothing for a silent
+-- line; and, each with a line feed, `bad line` for a bad one, the text of the answer of a legal
+-- step for a request, and the text of a report. Only a request may change the state.
 abbrev pub GivesText : State → Line → List ℕ → State → Type 0
 GivesText old line.Silent text new = (text ≡ []) × (new ≡ old)
 GivesText old line.Bad text new = (text ≡ codes "bad line" ++ 10 ∷ []) × (new ≡ old)

@@ -1,5 +1,5 @@
--- What a line asks for. Each table has words, and what they ask for. (The format of scripts is
--- this project's own: docs/SCRIPT.md.)
+-- The request of a line. Each table has words, and their requests. (The format of scripts is this
+-- project's own: docs/SCRIPT.md.)
 use Rattle.std.specs.Prelude.{ℕ, List, [], ◌∷◌, codes, Option, None, Some, option_and_then, option_map}
 use Rattle.std.specs.Option.{option_map_or}
 use Rattle.ft_core.specs.declared.request.Request.{Request}
@@ -10,11 +10,11 @@ use Rattle.ft_replies.specs.declared.line.Report.TheVariants.{Tree, Locks, Attri
 use Rattle.ft_replies.specs.declared.line.Line.{Line}
 use Rattle.ft_replies.specs.declared.line.Line.TheVariants as line
 
--- what asks for something alone on its line
+-- the words that are a request if they are the only one of their line
 abbrev pub lone_words : List (List ℕ × Line)
 lone_words = (codes "begin", line.Request Begin) ∷ (codes "checkpoint", line.Request Checkpoint) ∷ (codes "tree", line.Report Tree) ∷ (codes "locks", line.Report Locks) ∷ (codes "waits", line.Report Waits) ∷ (codes "attributes", line.Report Attributes) ∷ []
 
--- what asks for something of one transaction, whose number is the other word
+-- the words that are a request for one transaction, whose number is the other word
 abbrev pub txn_words : List (List ℕ × (ℕ → Request))
 txn_words = (codes "sub", Sub) ∷ (codes "commit", Commit) ∷ (codes "abort", Abort) ∷ (codes "undo", Undo) ∷ (codes "retry", Retry) ∷ (codes "drop", Drop) ∷ []
 
@@ -38,11 +38,11 @@ abbrev pub asked_by : List (List ℕ) → Option Line
 asked_by [] = None
 asked_by (first ∷ words) = option_map_or (λ txn. asked_by_txn txn words) (number_of first) (asked_by_word first words)
 
--- where a line asks for nothing that there is, it is bad
+-- if a line is not a valid request, it is bad
 abbrev pub or_bad : Option Line → Line
 or_bad None = line.Bad
 or_bad (Some meaning) = meaning
 
--- What a line means: nothing (`Silent`), nothing that there is (`Bad`), a request, or a report.
+-- The meaning of a line: nothing (`Silent`), no valid request (`Bad`), a request, or a report.
 abbrev pub meaning_of : List ℕ → Line
 meaning_of bytes = option_map_or (λ words. or_bad (asked_by words)) (words_of_line bytes) line.Silent

@@ -28,7 +28,7 @@ fault_name faults.NoAsk = codes "NoAsk"
 fault_name faults.NoViews = codes "NoViews"
 fault_name faults.BadLimits = codes "BadLimits"
 
--- the text of an answer, without the line feed behind it
+-- the text of an answer, without the line feed after it
 abbrev pub text_of : Answer → List ℕ
 text_of (Txn txn) = codes "txn " ++ decimal txn
 text_of (Granted stamp reply) = decimal stamp ++ codes " " ++ reply_text reply

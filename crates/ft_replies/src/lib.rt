@@ -1,4 +1,4 @@
-//! One line of a script: what it asks for, carried out on a core, and the text of its reply.
+//! One line of a script: its request, carried out on a core, and the text of its reply.
 #![tactic(auto)]
 
 mod line;

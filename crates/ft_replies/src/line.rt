@@ -1,23 +1,23 @@
-// What a line of a script means.
+// The meaning of a line of a script.
 use ft_core::Request;
 
-/// What a line means.
+/// The meaning of a line.
 #[derive(Debug, PartialEq, Eq, Drop)]
 pub enum Line {
     /// Nothing: the line is empty or a comment.
     Silent,
-    /// It asks for nothing that there is.
+    /// It is not a valid request.
     Bad,
     /// A request.
     Request(Request),
-    /// A report of how things stand.
+    /// A report of the present state.
     Report(Report),
 }
 
-/// A report of how things stand.
+/// A report of the present state.
 #[derive(Clone, Copy, Debug, PartialEq, Eq)]
 pub enum Report {
-    /// What the tree holds.
+    /// The rows of the tree.
     Tree,
     /// The locks and their owners, of all but attributes.
     Locks,

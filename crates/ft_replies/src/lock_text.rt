@@ -129,7 +129,7 @@ fn is_attributes(cell: &Cell) -> bool
     matches!(cell, Cell::DirAttributes(_) | Cell::FileAttributes(_))
 }
 
-// What the lock lets its owner do.
+// The mode of a lock.
 fn mode_text(mode: Mode) -> &'static str
     ensures { result.now ≡ mode_text mode }
 {

@@ -10,9 +10,9 @@ use ft_core::{Request, TxnId};
 use ft_words::{Unread, Words, call_of, number_of};
 use std::alloc::Global;
 
-/// What a line means. Its line feed is no part of it.
+/// Returns the meaning of a line. Its line feed is no part of it.
 ///
-/// Fails only for want of memory.
+/// Fails only for lack of memory.
 pub fn meaning_of(alloc: Global, line: &[u8]) -> Result<Line, Memory>
     ensures { IfOk result (λ meaning. meaning ≡ meaning_of line.now) }
 {
@@ -26,7 +26,7 @@ pub fn meaning_of(alloc: Global, line: &[u8]) -> Result<Line, Memory>
     }
 }
 
-// What words ask for, if they ask for something.
+// The meaning of words, if they have one.
 fn asked_by(alloc: Global, words: Words<'_>) -> Result<Line, Unread>
     ensures { Reads result (asked_by words.entry) }
 {
@@ -38,7 +38,7 @@ fn asked_by(alloc: Global, words: Words<'_>) -> Result<Line, Unread>
     }
 }
 
-// What the words behind a transaction's number ask for: a call.
+// The meaning of the words after a transaction's number: a call.
 fn asked_by_txn(alloc: Global, txn: TxnId, words: Words<'_>) -> Result<Line, Unread>
     ensures { Reads result (asked_by_txn txn words.entry) }
 {
@@ -48,7 +48,7 @@ fn asked_by_txn(alloc: Global, txn: TxnId, words: Words<'_>) -> Result<Line, Unr
     Ok(Line::Request(Request::Ask(txn, call)))
 }
 
-// What a line asks for that begins with a word.
+// The meaning of a line that begins with a word.
 fn asked_by_word(word: &[u8], others: Words<'_>) -> Option<Line>
     ensures { result ≡ asked_by_word word.now others.entry }
 {
@@ -63,7 +63,7 @@ fn asked_by_word(word: &[u8], others: Words<'_>) -> Option<Line>
     Some(Line::Request(request))
 }
 
-// What a word asks for alone on its line.
+// The meaning of a word that is the only one of its line.
 fn asked_alone(word: &[u8]) -> Option<Line>
     ensures { result ≡ look_up lone_words word.now }
 {
@@ -84,7 +84,7 @@ fn asked_alone(word: &[u8]) -> Option<Line>
     }
 }
 
-// What a word asks for of a transaction.
+// The request of a word for a transaction.
 fn txn_request(word: &[u8], txn: TxnId) -> Option<Request>
     ensures { result ≡ txn_request word.now txn }
 {

@@ -11,11 +11,11 @@ use ft_base::Memory;
 use ft_core::{Answer, Core, Request};
 use std::alloc::Global;
 
-/// Carries out one line of a script, without its line feed, and gives the text of its reply. What a
-/// commit or an abort has let go is swept, where it is not refused.
+/// Carries out one line of a script, without its line feed, and returns the text of its reply.
+/// After a commit or an abort that is not refused, what it has released is swept.
 ///
-/// Fails only for want of memory: then the line was not carried out, or the memory was wanted for
-/// the text of its reply.
+/// Fails only for lack of memory: then the line was not carried out, or there was no memory for the
+/// text of its reply.
 pub fn reply_to(alloc: Global, line: &[u8], core: &mut Core) -> Result<String, Memory>
     ensures ok { IfOk result (λ reply. GivesText core.old.state (meaning_of line.now) (string_bytes reply) core.new.state) }
     ensures err { OnErr result ((core.new.state ≡ core.old.state) ⊎ ((text : List ℕ) × GivesText core.old.state (meaning_of line.now) text core.new.state)) }
@@ -51,7 +51,8 @@ pub fn reply_into(
     }
 }
 
-/// Carries out a request. What a commit or an abort has let go is swept, where it is not refused.
+/// Carries out a request. After a commit or an abort that is not refused, what it has released is
+/// swept.
 pub fn carry_out(core: &mut Core, request: Request) -> Answer
     ensures { IsLegal core.old.state request result core.new.state }
 {

@@ -1,4 +1,4 @@
-// Reports of how things stand.
+// Reports of the present state.
 ghost use Rattle.std.specs.Prelude.{IfOk, IfSome, string_bytes};
 ghost use Rattle.ft_replies.specs.Lines.{IsReport, IsWholeReport};
 
@@ -11,9 +11,10 @@ use ft_waits::judged_edges;
 use ft_words::TreeText;
 use std::alloc::Global;
 
-/// A report, with its line feed. Want of memory for what it tells of is told in its place.
+/// Returns a report, with its line feed. If there is no memory for its contents, the text says so
+/// instead.
 ///
-/// Fails only for want of memory for its text.
+/// Fails only for lack of memory for its text.
 pub(crate) fn report_of(alloc: Global, report: Report, core: &Core) -> Result<String, Memory>
     ensures { IfOk result (λ text. IsReport core.now.state report (string_bytes text)) }
 {
@@ -23,9 +24,9 @@ pub(crate) fn report_of(alloc: Global, report: Report, core: &Core) -> Result<St
     }
 }
 
-/// A report, with its line feed. `None` where there is no memory for what it tells of.
+/// Returns a report, with its line feed. `None` if there is no memory for its contents.
 ///
-/// Fails only for want of memory for its text.
+/// Fails only for lack of memory for its text.
 pub fn whole_report_of(alloc: Global, report: Report, core: &Core) -> Result<Option<String>, Memory>
     ensures { IfOk result (λ told. IfSome told (λ text. IsWholeReport core.now.state report (string_bytes text))) }
 {
@@ -37,7 +38,7 @@ pub fn whole_report_of(alloc: Global, report: Report, core: &Core) -> Result<Opt
     }
 }
 
-// What the tree holds.
+// The report of the tree.
 fn tree_report(alloc: Global, core: &Core) -> Result<Option<String>, Memory>
     ensures { IfOk result (λ told. IfSome told (λ text. IsWholeReport core.now.state Report.Tree (string_bytes text))) }
 {

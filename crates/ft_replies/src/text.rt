@@ -6,7 +6,7 @@ use ft_core::{Answer, Fault, TxnId};
 use ft_words::ReplyText;
 use std::fmt;
 
-/// The reply that tells of an answer, without its line feed.
+/// The reply that reports an answer, without its line feed.
 #[derive(Clone, Copy)]
 pub struct AnswerText<'a>(pub &'a Answer);
 

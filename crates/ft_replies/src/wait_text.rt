@@ -1,4 +1,4 @@
-// The text of who waits for whom.
+// The text of which transaction waits for which.
 ghost use Rattle.std.specs.Prelude.{◌≡◌, ◌++◌, Some};
 ghost use Rattle.ft_words.specs.Texts.{lines_text};
 ghost use Rattle.ft_replies.specs.Reports.{waits_text, edge_text, rank_list, verdict_text};
@@ -8,7 +8,7 @@ use ft_core::TxnId;
 use ft_waits::{Edge, Verdict};
 use std::fmt;
 
-/// Waits-for edges, and what they come to.
+/// Waits-for edges, and their verdict.
 #[derive(Clone, Copy)]
 pub struct WaitsText<'a> {
     pub edges: &'a [Edge],

@@ -1,5 +1,5 @@
--- What the steps of a job ask for. (The rules for jobs are this project's own: docs/SCRIPT.md,
--- Plans.)
+-- The calls that the steps of a job request. (The rules for jobs are this project's own:
+-- docs/SCRIPT.md, Plans.)
 use Rattle.std.specs.Prelude.{◌≡◌, ◌≢◌, ◌⊎◌, ℕ, zero, suc, ◌+◌, ◌-◌, Bool, true, false, not, ◌&&◌, ◌||◌, List, [], ◌∷◌, ◌++◌, length, drop, take, if◌then◌else◌, MatchOption, Option, None, Some, map, option_and_then}
 use Rattle.std.specs.Option.{unwrap_or}
 use Rattle.std.specs.List.{filter_map, slice_get}
@@ -32,7 +32,7 @@ is_call does.Subs = false
 is_call does.Commit = false
 is_call does.Abort = false
 
--- the descriptor that an open answered, or 0, which is none, where it failed
+-- the descriptor that an open returned, or 0, which is none, if it failed
 abbrev pub descriptor_in : Reply → ℕ
 descriptor_in (answer.Number n) = n
 descriptor_in reply = 0
@@ -78,7 +78,7 @@ on_opened ds (posix.Fchown k owner group) = posix.Fchown (opened_at ds k) owner 
 on_opened ds (posix.Futime k time) = posix.Futime (opened_at ds k) time
 on_opened ds call = call
 
--- the call that a step asks for, where the steps opened these descriptors
+-- the call that a step requests, if the steps opened these descriptors
 abbrev pub asked_by : List ℕ → Step → Option Call
 asked_by ds (does.Call call) = Some call
 asked_by ds (does.CallOn call) = Some (on_opened ds call)
@@ -88,7 +88,7 @@ asked_by ds does.Subs = None
 asked_by ds does.Commit = None
 asked_by ds does.Abort = None
 
--- The calls that the steps ask for, in order.
+-- The calls that the steps request, in order.
 abbrev pub all_asked : List ℕ → List Step → List Call
 all_asked ds steps = filter_map (asked_by ds) steps
 
@@ -111,8 +111,8 @@ abbrev pub EndsWith : List Step → Step → Type 0
 EndsWith steps last = slice_get steps (length steps - 1) ≡ Some last
 
 -- A job with calls to this extent (all that was asked for, the first of it, or other calls) may
--- have ended so: where the end names a step, that is the last one, and all calls were made; else
--- they are the first.
+-- have ended so: if the end names a step, that is the last one, and all calls were made; else they
+-- are the first.
 abbrev pub IsAtEnd : List Step → End → Extent → Type 0
 IsAtEnd steps Committed extent = (extent ≡ Whole) × EndsWith steps does.Commit
 IsAtEnd steps Aborted extent = (extent ≡ Whole) × EndsWith steps does.Abort
@@ -121,13 +121,13 @@ IsAtEnd steps (Refused fault) extent = extent ≢ Other
 IsAtEnd steps NotStarted extent = extent ≢ Other
 IsAtEnd steps (Failed number) extent = ⊥
 
--- what the steps ask for, where these are their calls
+-- what the steps ask for, if these are their calls
 abbrev pub asked_with : List Step → List CallReport → List Call
 asked_with steps calls = all_asked (opened steps calls) steps
 
 -- ---- strict jobs
 
--- each call of a job of this kind has to do what it asks for, where it is not tried
+-- each call of a job of this kind must do what it requests, if it is not tried
 abbrev pub is_strict : JobKind → Bool
 is_strict Free = false
 is_strict Strict = true
@@ -139,17 +139,17 @@ may_fail (does.Try call) = true
 may_fail (does.TryOn call) = true
 may_fail step = false
 
--- a strict job goes on behind this call of a step: it did what it asks for, as a line of a strict
+-- a strict job goes on after this call of a step: it did what it requests, as a line of a strict
 -- script does, or may fail
 abbrev pub goes_on : Step → CallReport → Bool
 goes_on step c = may_fail step || is_well (Granted c.stamp c.reply)
 
--- behind the first of these calls, if the step asks for one
+-- after the first of these calls, if the step requests one
 abbrev pub first_goes_on : Step → List CallReport → Bool
 first_goes_on step [] = true
 first_goes_on step (c ∷ calls) = not (is_call step) || goes_on step c
 
--- behind all of them, if they are the calls of the steps
+-- after all of them, if they are the calls of the steps
 abbrev pub all_go_on : List Step → List CallReport → Bool
 all_go_on [] calls = true
 all_go_on (step ∷ steps) calls = first_goes_on step calls && all_go_on steps (calls_behind step calls)
@@ -163,17 +163,18 @@ names_step end = false
 abbrev pub is_failing : Step → Bool
 is_failing step = is_call step || is_subs step
 
--- before so many steps the step stands, if it may fail
+-- the step is before so many steps, if it may fail
 abbrev pub place_if_failing : ℕ → Step → Option ℕ
 place_if_failing before step = if is_failing step then Some before else None
 
--- before how many steps the one of this number stands, if it may fail; the first has the number 1
+-- the number of steps that the one of this number is before, if it may fail; the first has the
+-- number 1
 abbrev pub failing_place : List Step → ℕ → Option ℕ
 failing_place steps zero = None
 failing_place steps (suc before) = option_and_then (place_if_failing before) (slice_get steps before)
 
--- Behind so many steps stands one whose call was not granted, or failed and may not, or one without
--- a call: these are the calls up to there.
+-- The step after so many has a call that was not granted, or failed and may not, or has no call:
+-- these are the calls up to there.
 abbrev pub StopsBehind : List Step → List CallReport → ℕ → Type 0
 StopsBehind steps calls before =
     AreAllOf (asked_with (take before steps) calls) calls
@@ -183,7 +184,7 @@ StopsBehind steps calls before =
 abbrev pub StopsAt : List Step → ℕ → List CallReport → Type 0
 StopsAt steps number calls = MatchOption (failing_place steps number) ⊥ (StopsBehind steps calls)
 
--- A strict job that ended so went on behind each call before the step that failed; it waited for
+-- A strict job that ended so went on after each call before the step that failed; it waited for
 -- nothing in vain.
 abbrev pub goes_strictly : List Step → End → List CallReport → Bool
 goes_strictly steps (Failed number) calls = all_go_on (take (number - 1) steps) calls
@@ -199,9 +200,9 @@ is_of_kind kind steps end calls = if is_strict kind then goes_strictly steps end
 
 -- ---- how far a job came, all in all
 
--- A job that ended so has made these calls of its steps: where it ended as Committed or Aborted
--- all of them, and its last step is that commit or abort; where a step failed those up to it; else
--- the first of them.
+-- A job that ended so has made these calls of its steps. If it ended as Committed or Aborted, they
+-- are all of them, and its last step is that commit or abort. If a step failed, they are those up
+-- to it; else the first of them.
 abbrev pub IsDone : List Step → End → List CallReport → Type 0
 IsDone steps Committed calls = AreAllOf (asked_with steps calls) calls × EndsWith steps does.Commit
 IsDone steps Aborted calls = AreAllOf (asked_with steps calls) calls × EndsWith steps does.Abort

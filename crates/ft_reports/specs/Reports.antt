@@ -26,7 +26,7 @@ use Rattle.ft_reports.specs.Asked.{IsDone, is_of_kind, is_strict}
 
 -- ---- the calls of a transaction
 
--- a granted call, as its asker is told of it
+-- a granted call, with the reply that its asker got
 abbrev pub as_told : Granted → CallReport
 as_told c = record { stamp = c.call.stamp; call = c.call.call; reply = c.reply }
 
@@ -81,7 +81,7 @@ have_own_txns (r ∷ reports) = not (option_map_or (is_reported reports) r.txn f
 abbrev pub is_named : List ℕ → Job → Bool
 is_named name job = bytes_eq job.name name
 
--- the report of the job of this name, which stands at its place
+-- the report of the job of this name, which is at its place
 abbrev pub report_of : List Job → List Report → List ℕ → Option Report
 report_of jobs reports name = option_and_then (slice_get reports) (position (is_named name) jobs)
 
@@ -118,8 +118,8 @@ may_lack_txn (Refused fault) = true
 may_lack_txn (Failed number) = false
 may_lack_txn NotStarted = true
 
--- a job with these steps that ended so, as Waited, Refused or NotStarted, or failed before it came
--- to its subjobs, may have left these unstarted
+-- a job with these steps that ended so, as Waited, Refused or NotStarted, or failed before it
+-- reached its subjobs, may have left these unstarted
 abbrev pub may_leave_subjobs : List Step → End → Bool
 may_leave_subjobs steps Committed = false
 may_leave_subjobs steps Aborted = false
@@ -191,8 +191,8 @@ is_spared jobs reports name = list_all (spares name) (zip jobs reports)
 abbrev pub is_subs_at : List Step → ℕ → Bool
 is_subs_at steps number = option_map_or is_subs (step_at steps number) false
 
--- A job with these steps that ended so may be spared, or not: it fails where it starts its subjobs
--- just if it is not, and comes past that step only if it is.
+-- A job with these steps that ended so may be spared, or not: it fails at the step that starts its
+-- subjobs exactly if it is not, and comes past that step only if it is.
 abbrev pub may_end : List Step → End → Bool → Bool
 may_end steps Committed spared = spared
 may_end steps Aborted spared = spared
@@ -242,7 +242,7 @@ is_unstarted (Refused fault) = false
 is_unstarted (Failed number) = false
 is_unstarted NotStarted = true
 
--- A job that was started comes after those that it has to: they have committed, before it began.
+-- A job that was started comes after those that it must: they have committed, before it began.
 abbrev pub comes_last : History → List Job → List Report → Job → Report → Bool
 comes_last h jobs reports job r = is_unstarted r.end || (may_start jobs reports job && began_behind h jobs reports job r.txn)
 
@@ -274,22 +274,22 @@ pub record IsReport (h : History) (jobs : List Job) (reports : List Report) (at 
   pub rising : stamps_rise 0 r.calls ≡ true
   -- They are those of its steps, as far as its end says.
   pub done : IsDone job.steps r.end r.calls
-  -- A strict job went on behind each of them but that of a step that failed; only such a job fails.
+  -- A strict job went on after each of them but that of a step that failed; only such a job fails.
   pub kind : is_of_kind job.kind job.steps r.end r.calls ≡ true
-  -- A job is not started only where it is a subjob whose parent was not started, was refused
-  -- something or waited too long, or failed before it came to its subjobs, or where one that it
-  -- comes after has not committed.
+  -- A job is not started only if it is a subjob whose parent was not started, was refused something
+  -- or waited too long, or failed before it reached its subjobs, or if one that it comes after has
+  -- not committed.
   pub unstarted : r.end ≡ NotStarted → may_be_unstarted jobs reports job ≡ true
-  -- One that was started comes after those that it has to.
+  -- One that was started comes after those that it must.
   pub after : comes_last h jobs reports job r ≡ true
-  -- It fails at its `subs` where a job takes it along, and goes on behind it where none does.
+  -- It fails at its `subs` if a job takes it along, and goes on after it if none does.
   pub spared : may_end job.steps r.end (is_spared jobs reports job.name) ≡ true
 
--- So it is of the job and the report at this place.
+-- This holds of the job and the report at this place.
 abbrev pub IsReportAt : History → List Job → List Report → ℕ → Type 0
 IsReportAt h jobs reports at = (job : Job) (r : Report) → slice_get jobs at ≡ Some job → slice_get reports at ≡ Some r → IsReport h jobs reports at job r
 
--- Its transaction is committed where the job ended so, and else aborted.
+-- Its transaction is committed if the job ended so, and else aborted.
 abbrev pub HasItsFate : State → Report → Type 0
 HasItsFate s r = IfSome r.txn (λ t. fate_of s t ≡ Some (fate_at r.end))
 

@@ -18,7 +18,7 @@ use ft_record::Recorded;
 use std::alloc::Global;
 
 /// Whether these are the reports of what happened to the jobs of a plan, in the core that they
-/// left. Its only error is want of memory.
+/// left. Its only error is out of memory.
 pub fn are_reports(
     alloc: Global,
     plan: &Plan,
@@ -108,8 +108,8 @@ fn is_report_at(
     )
 }
 
-// Whether a report has just the calls that its transaction was granted, which is nested as the job
-// is. Without a transaction, whether there may be none, and no calls.
+// Whether a report has exactly the calls that its transaction was granted, which is nested as the
+// job is. Without a transaction, whether there may be none, and no calls.
 fn is_of_txn(events: &[Event], jobs: &[Job], reports: &[Report], job: &Job, report: &Report) -> bool
     ensures { IsTrue result ↔ MatchOption report.now.txn (MayLackTxn report.now) (IsOfTxn (told events.now) jobs.now reports.now job.now report.now) }
 {
@@ -133,7 +133,7 @@ fn is_nested(events: &[Event], jobs: &[Job], reports: &[Report], job: &Job, txn:
     }
 }
 
-// Whether the job was started where its report says so, or where it was not may be unstarted.
+// Whether the job was started if its report says so, and else may be unstarted.
 fn is_started(jobs: &[Job], reports: &[Report], job: &Job, report: &Report) -> bool
     ensures { IsTrue result ↔ (report.now.end ≡ End.NotStarted → may_be_unstarted jobs.now reports.now job.now ≡ true) }
 {
@@ -290,7 +290,7 @@ fn are_accounted(events: &[Event], reports: &[Report]) -> bool
     events.iter().all(|event| is_accounted(reports, event))
 }
 
-// Whether the event is no call amid the jobs but one of theirs, and takes back none of theirs.
+// Whether the event is no call amid the jobs but one of theirs, and undoes none of theirs.
 fn is_accounted(reports: &[Report], event: &Event) -> bool
     ensures { result ≡ is_accounted reports.now event.now }
 {

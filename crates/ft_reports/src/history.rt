@@ -1,4 +1,4 @@
-// What the history has of a transaction.
+// Facts of a transaction in the history.
 ghost use Rattle.std.specs.Prelude.{◌≡◌, ◌↔◌, cond, Some, is_some, IsTrue};
 ghost use Rattle.ft_posix.specs.Posix.{posix_calls};
 ghost use Rattle.ft_history.specs.History.{parent};
@@ -39,7 +39,7 @@ fn is_call_of(event: &Event, txn: TxnId) -> bool
     }
 }
 
-// Whether the event is a call of a transaction, granted as it is told here.
+// Whether the event is a call of a transaction, granted with this reply.
 fn is_told(event: &Event, txn: TxnId, told: &CallReport) -> bool
     ensures { IsTrue result ↔ (granted_by txn event.now ≡ Some told.now) }
 {
@@ -81,7 +81,7 @@ pub fn parent_of(events: &[Event], txn: TxnId) -> Option<TxnId>
     parent
 }
 
-// The parent of a transaction after the event, where it was this one before.
+// The parent of a transaction after the event, if it was this one before.
 fn parent_after(event: &Event, txn: TxnId, before: Option<TxnId>) -> Option<TxnId>
     ensures { result ≡ parent_after txn before event.now }
 {
@@ -106,7 +106,7 @@ pub fn had_committed(events: &[Event], txn: TxnId, before: TxnId) -> bool
     seen.had
 }
 
-/// What is seen of one transaction beside another.
+/// The facts of one transaction with another.
 #[derive(Clone, Copy)]
 struct Seen {
     /// It has committed.
@@ -115,7 +115,7 @@ struct Seen {
     had: bool,
 }
 
-// What is seen after the event, where this was seen before.
+// Returns what is seen after the event, if this was seen before.
 fn seen_after(event: &Event, txn: TxnId, before: TxnId, seen: Seen) -> Seen
     ensures { result ≡ seen_after txn before seen event.now }
 {

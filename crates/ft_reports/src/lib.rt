@@ -1,5 +1,4 @@
-//! What becomes of jobs: reports of them, which calls the steps of a job ask for, and whether
-//! reports are what happened.
+//! Reports of jobs: which calls the steps of a job request, and whether reports are what happened.
 #![tactic(auto)]
 
 mod comparing;

@@ -8,7 +8,7 @@ use crate::report::{End, Report};
 use crate::steps::{comes_to_subs, is_strict, is_subs};
 use ft_plan::{Job, JobKind, Step};
 
-/// Whether each job was ended by its last step, as the plan means, where one of them is strict.
+/// Whether each job was ended by its last step, as the plan means, if one of them is strict.
 pub fn are_met(jobs: &[Job], reports: &[Report]) -> bool
     ensures { result ≡ are_met jobs.now reports.now }
 {
@@ -80,7 +80,7 @@ pub fn is_must(kind: JobKind) -> bool
     matches!(kind, JobKind::Must)
 }
 
-// Whether a job stands under the one of this name.
+// Whether a job is under the one of this name.
 fn is_subjob_of(name: &[u8], job: &Job) -> bool
     ensures { result ≡ is_subjob_of name.now job.now }
 {
@@ -90,8 +90,8 @@ fn is_subjob_of(name: &[u8], job: &Job) -> bool
     }
 }
 
-/// Whether a job with these steps that ended so may be spared, or not: it fails where it starts its
-/// subjobs just if it is not, and comes past that step only if it is.
+/// Whether a job with these steps that ended so may be spared, or not: it fails at the step that
+/// starts its subjobs exactly if it is not, and comes past that step only if it is.
 pub fn may_end(steps: &[Step], end: End, spared: bool) -> bool
     ensures { result ≡ may_end steps.now end spared }
 {

@@ -10,8 +10,8 @@ use crate::report::{End, Report};
 use ft_core::{Event, TxnId};
 use ft_plan::{Job, JobName};
 
-/// Whether a job that was started comes after those that it has to: they have committed, before it
-/// began.
+/// Whether a job that was started comes after those that it must come after: they have committed,
+/// before it began.
 pub fn comes_last(
     events: &[Event],
     jobs: &[Job],

@@ -1,4 +1,4 @@
-// What becomes of jobs.
+// The outcomes of jobs.
 use ft_base::Sequence;
 use ft_calls::{Call, Reply};
 use ft_core::{Fault, TxnId};
@@ -15,14 +15,14 @@ pub enum End {
     /// It was refused something, and then its transaction was aborted, if it had one that was still
     /// live.
     Refused(Fault),
-    /// The step of this number, counted from 1, did not do what it asks for, in a strict job, and
+    /// The step of this number, counted from 1, did not do what it requests, in a strict job, and
     /// then its transaction was aborted.
     Failed(u64),
-    /// The job that it is a subjob of ended before it came to its subjobs.
+    /// The job that it is a subjob of ended before it reached its subjobs.
     NotStarted,
 }
 
-/// A call that a job was granted, as the job was told of it.
+/// A call that a job was granted, with the reply that the job got.
 #[derive(Debug, PartialEq, Eq, Drop)]
 pub struct CallReport {
     pub stamp: u64,
@@ -59,7 +59,7 @@ impl CallReport {
     }
 }
 
-/// What became of a job.
+/// The outcome of a job.
 #[derive(Debug, PartialEq, Eq, Drop)]
 pub struct Report {
     /// The job's place in the plan. The first has the number 0.

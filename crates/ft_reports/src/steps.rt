@@ -1,4 +1,4 @@
-// What the steps of a job ask for.
+// The calls that the steps of a job request.
 ghost use Rattle.std.specs.Prelude.{◌≡◌, ◌≢◌, ◌↔◌, ◌-◌, false, IfOk, IsTrue, take, MatchOption};
 ghost use Rattle.std.specs.List.{list_any, slice_get};
 ghost use Rattle.ft_plan.specs.Plans.{is_subs};
@@ -10,8 +10,8 @@ use ft_calls::{Call, Reply};
 use ft_plan::{Job, JobKind, Step};
 use std::alloc::Global;
 
-/// The call that a step asks for, where the steps opened these descriptors; none where it asks for
-/// none.
+/// Returns the call that a step requests, if the steps opened these descriptors; none if it
+/// requests none.
 pub fn asked(alloc: Global, step: &Step, descriptors: &[u64]) -> Result<Option<Call>, Memory>
     ensures { IfOk result (λ call. call ≡ asked_by descriptors.now step.now) }
 {
@@ -46,7 +46,7 @@ fn on_opened(mut call: Call, descriptors: &[u64]) -> Call
     call
 }
 
-// What the step of this number opened. The first has the number 1.
+// The descriptor that the step of this number opened. The first has the number 1.
 fn opened_at(descriptors: &[u64], step: u64) -> u64
     ensures { result ≡ opened_at descriptors.now step }
 {
@@ -56,7 +56,7 @@ fn opened_at(descriptors: &[u64], step: u64) -> u64
     descriptors.get(before as usize).copied().unwrap_or(0)
 }
 
-/// The descriptor that an open answered, or 0, which is none, where it failed.
+/// Returns the descriptor that an open returned, or 0, which is none, if it failed.
 pub fn descriptor_in(reply: &Reply) -> u64
     ensures { result ≡ descriptor_in reply.now }
 {
@@ -66,7 +66,7 @@ pub fn descriptor_in(reply: &Reply) -> u64
     }
 }
 
-// Whether a step asks for a call.
+// Whether a step requests a call.
 fn is_call(step: &Step) -> bool
     ensures { result ≡ is_call step.now }
 {
@@ -76,7 +76,7 @@ fn is_call(step: &Step) -> bool
     )
 }
 
-// What a step opened, if these are the calls from it on.
+// The descriptor that a step opened, if these are the calls from it on.
 fn opened_by(step: &Step, calls: &[CallReport]) -> u64
     ensures { result ≡ opened_by step.now calls.now }
 {
@@ -121,7 +121,7 @@ enum Extent {
     Other,
 }
 
-// How much these calls are of what the steps ask for, where they opened these descriptors.
+// The extent of these calls among those that the steps request, if they opened these descriptors.
 fn extent_of(
     alloc: Global,
     steps: &[Step],
@@ -147,8 +147,8 @@ fn extent_of(
     Ok(Extent::Whole)
 }
 
-/// Whether the calls of a report are those of the steps of its job: all of them where its last step
-/// ended the job, those up to a step where that failed, and else the first of them.
+/// Whether the calls of a report are those of the steps of its job: all of them if its last step
+/// ended the job, those up to a step if that failed, and else the first of them.
 pub fn is_done(alloc: Global, steps: &[Step], report: &Report) -> Result<bool, Memory>
     ensures { IfOk result (λ done. IsTrue done ↔ IsDone steps.now report.now.end report.now.calls) }
 {
@@ -182,7 +182,8 @@ fn stops_at(
     are_all_of(alloc, made, calls)
 }
 
-// Before how many steps the one of this number stands, if it may fail. The first has the number 1.
+// The number of steps that the one of this number is before, if it may fail. The first has the
+// number 1.
 fn failing_place(steps: &[Step], number: u64) -> Option<usize>
     ensures { result ≡ failing_place steps.now number }
 {
@@ -200,7 +201,7 @@ fn is_failing(step: &Step) -> bool
     is_call(step) || is_subs(step)
 }
 
-// Whether these calls are all that the steps ask for.
+// Whether these calls are all that the steps request.
 fn are_all_of(alloc: Global, steps: &[Step], calls: &[CallReport]) -> Result<bool, Memory>
     ensures { IfOk result (λ all. IsTrue all ↔ AreAllOf (asked_with steps.now calls.now) calls.now) }
 {
@@ -209,7 +210,7 @@ fn are_all_of(alloc: Global, steps: &[Step], calls: &[CallReport]) -> Result<boo
     Ok(extent == Extent::Whole)
 }
 
-// The same where the end names no step.
+// The same if the end names no step.
 fn comes_to(alloc: Global, steps: &[Step], end: End, calls: &[CallReport]) -> Result<bool, Memory>
     requires { names_step end ≡ false }
     ensures { IfOk result (λ done. IsTrue done ↔ IsDone steps.now end calls.now) }
@@ -219,8 +220,8 @@ fn comes_to(alloc: Global, steps: &[Step], end: End, calls: &[CallReport]) -> Re
     Ok(is_at_end(steps, end, extent))
 }
 
-// Whether a job with calls to this extent may have ended so: where the end names a step, that is
-// the last one, and all calls were made.
+// Whether a job with calls to this extent may have ended so: if the end names a step, that is the
+// last one, and all calls were made.
 fn is_at_end(steps: &[Step], end: End, extent: Extent) -> bool
     ensures { IsTrue result ↔ IsAtEnd steps.now end extent }
 {
@@ -232,7 +233,7 @@ fn is_at_end(steps: &[Step], end: End, extent: Extent) -> bool
     }
 }
 
-/// Whether each call of a job of this kind has to do what it asks for, where it is not tried.
+/// Whether each call of a job of this kind must do what it requests, if it is not tried.
 pub fn is_strict(kind: JobKind) -> bool
     ensures { result ≡ is_strict kind }
 {
@@ -246,7 +247,7 @@ fn may_fail(step: &Step) -> bool
     matches!(step, Step::Try(_) | Step::TryOn(_))
 }
 
-/// Whether a strict job goes on behind this call of a step: it did what it asks for, or may fail.
+/// Whether a strict job goes on after this call of a step: it did what it requests, or may fail.
 pub fn goes_on(step: &Step, call: &CallReport) -> bool
     ensures { result ≡ goes_on step.now call.now }
 {
@@ -278,7 +279,7 @@ fn all_go_on(steps: &[Step], calls: &[CallReport]) -> bool
 }
 
 /// Whether the calls of a report, and its end, are those of a job of this kind: a strict one goes
-/// on behind each call but that of the step that has failed, and waits for nothing in vain; no
+/// on after each call except that of the step that has failed, and waits for nothing in vain; no
 /// other fails.
 pub fn is_of_kind(job: &Job, report: &Report) -> bool
     ensures { result ≡ is_of_kind job.now.kind job.now.steps report.now.end report.now.calls }

@@ -1,4 +1,4 @@
--- The line that tells of a fault, with its line feed.
+-- The line that reports a fault, with its line feed.
 use Rattle.std.specs.Prelude.{◌⊎◌, ℕ, List, [], ◌∷◌, ◌++◌, take, Option, codes, string_bytes}
 use Rattle.std.specs.Str.Lines.{strip_carriage_return}
 use Rattle.std.specs.Fmt.{decimal}
@@ -39,7 +39,7 @@ run_fault_line run.Write = fault_line Write
 abbrev pub shown_of : List ℕ → List ℕ
 shown_of bytes = take 200 (strip_carriage_return bytes)
 
--- the same of a line of a strict script that did not do what it asks for: its number, the line, and
+-- the same of a line of a strict script that did not do what it requests: its number, the line, and
 -- its reply, which has a line feed
 abbrev pub strict_line : FailedLine → List ℕ
 strict_line failed = codes "fault: Strict " ++ decimal failed.number ++ codes ": " ++ shown_of failed.line.items ++ codes " = " ++ string_bytes failed.reply
@@ -64,7 +64,7 @@ trouble_name troubles.BadTree = codes "BadTree"
 trouble_name troubles.Exists = codes "Exists"
 trouble_name troubles.Full = codes "Full"
 
--- the same of a copy: the path behind the name, coded, where it is not empty
+-- the same of a copy: the path after the name, coded, if it is not empty
 abbrev pub stopped_line : Stopped → List ℕ
 stopped_line stopped = codes "fault: " ++ trouble_name stopped.trouble ++ data_text stopped.path ++ 10 ∷ []
 
@@ -74,7 +74,7 @@ save_line (save.Replies fault) = fault_line fault
 save_line save.NoTree = codes "fault: NoTree" ++ 10 ∷ []
 save_line (save.Stopped stopped) = stopped_line stopped
 
--- The line was written, or a beginning of it; or so was that of Memory, where there was none for
--- the line.
+-- The line was written, or a beginning of it; or so was that of Memory, if there was none for the
+-- line.
 abbrev pub TellsLine : Option (List ℕ) → Option (List ℕ) → List ℕ → Type 0
 TellsLine before after line = WritesFront before after line ⊎ WritesFront before after (fault_line Memory)

@@ -30,8 +30,8 @@ impl Causes {
         self.last.set(None);
     }
 
-    /// Why something was not read. The kit's library tells where a link leads only where that is
-    /// UTF-8 text.
+    /// Returns why something was not read. The kit's library reports where a link leads only if
+    /// that is UTF-8 text.
     pub fn of_read(&self, error: io::Error) -> Trouble {
         match error.kind() {
             ErrorKind::OutOfMemory => Trouble::Memory,
@@ -56,7 +56,7 @@ impl Causes {
         }
     }
 
-    /// Tells on standard error, behind the line of a fault, why that has come, if it is known.
+    /// Prints on standard error, after the line of a fault, why that has come, if it is known.
     pub fn tell(&self, rt: &HostRuntime) {
         if let Some(kind) = self.last.get() {
             if let Ok(line) = format!(in rt.alloc(); "cause: {kind}\n") {

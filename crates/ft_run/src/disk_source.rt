@@ -13,26 +13,26 @@ use std::io::Read;
 use std::os::unix::fs::MetadataExt;
 use std::{fs, str};
 
-// So many bytes of names are read at once.
+// How many bytes of names are read at once.
 const NAMES: usize = 4_096;
 
-// How many modes there are. The system tells the kind of a file above them.
+// How many modes there are. The system puts the kind of a file above them.
 const MODES: u32 = 0o10000;
 
 /// A directory on disk, which is read and never written.
 ///
-/// Symbolic links are not followed, also one that comes in the place of a directory meanwhile: what
-/// stands in a directory is looked up in the one that was listed, or else nothing is told. What was
-/// opened, listed or read is told with what tells it from all else, so that who has looked there
-/// before knows whether it is the same.
+/// Symbolic links are not followed, even one that takes the place of a directory meanwhile. An
+/// entry of a directory is looked up in the one that was listed, or else nothing is reported.
+/// Whatever was opened, listed or read is reported with what distinguishes it from all else, so
+/// that a caller that has looked there before knows whether it is the same.
 #[derive(Drop)]
 pub struct DiskSource<'a> {
     rt: &'a HostRuntime,
     dir: &'a str,
     causes: &'a Causes,
-    // whether names that are no text are told: then they are refused when they are looked at
+    // whether names that are no text are listed: then they are refused when they are looked at
     tells_names: bool,
-    // the directories that were listed: the number of what stands in one is its place here
+    // the directories that were listed: the number of what is in one is its place here
     listed: RefCell<Vec<FileId>>,
     // the one that is held open, and its number
     held: Cell<Option<(u64, Held)>>,
@@ -40,7 +40,7 @@ pub struct DiskSource<'a> {
 
 impl<'a> DiskSource<'a> {
     /// Nothing is read yet. A name that is no text is refused with its directory, unless such names
-    /// are to be told: then it is refused when it is looked at.
+    /// are to be listed: then it is refused when it is looked at.
     pub fn new(
         rt: &'a HostRuntime,
         dir: &'a str,
@@ -57,7 +57,7 @@ impl<'a> DiskSource<'a> {
         }
     }
 
-    // Where a path of the tree stands on disk. A path that is no text has no place there.
+    // The place of a path of the tree on disk. A path that is no text has no place there.
     fn place(&self, path: &[u8]) -> Result<String, Trouble> {
         let Ok(path) = str::from_utf8(path) else {
             return Err(Trouble::BadName);
@@ -138,7 +138,7 @@ impl<'a> DiskSource<'a> {
         Ok(())
     }
 
-    // Holds a directory open that was listed, and answers its number.
+    // Holds a directory open that was listed, and returns its number.
     fn hold(&self, held: Held) -> Result<u64, Trouble> {
         let Ok(mut listed) = self.listed.try_borrow_mut() else {
             return Err(Trouble::Read);
@@ -181,8 +181,8 @@ impl<'a> Source for DiskSource<'a> {
         }
     }
 
-    // (The kit opens no file without following a symbolic link, nor without waiting for a FIFO. What
-    // a link leads to that has come meanwhile is another file than the one that was looked at.)
+    // (The kit opens no file without following a symbolic link, nor without waiting for a FIFO. A
+    // link that has come meanwhile leads to another file than the one that was looked at.)
     fn open(&self, path: &[u8], node: u64) -> Result<Opened<Noted<'a, File>>, Trouble> {
         let place = self.reached(path, node)?;
         let file = File::open(self.rt, place.as_str()).map_err(|error| self.causes.of_read(error))?;
@@ -215,7 +215,7 @@ impl<'a> Source for DiskSource<'a> {
     }
 }
 
-// What the system tells of what stands somewhere.
+// What the system reports of a directory or file.
 fn found(metadata: &Metadata) -> Found {
     if metadata.is_dir() {
         return Found::Folder(FoundFolder {
@@ -241,7 +241,7 @@ fn found(metadata: &Metadata) -> Found {
     }
 }
 
-// The mode of what stands somewhere, without its kind, and its owners.
+// The mode of a directory or file, without its kind, and its owners.
 fn attributes_of(metadata: &Metadata) -> Attributes {
     Attributes {
         mode: (metadata.mode() % MODES) as u16,

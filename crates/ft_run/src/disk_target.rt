@@ -11,7 +11,7 @@ use std::io::{ErrorKind, Write};
 use std::os::unix::fs::{DirBuilderExt, MetadataExt, OpenOptionsExt, PermissionsExt, symlink};
 use std::{fs, io, str};
 
-// How many names beside the directory are tried.
+// How many names alongside the directory are tried.
 const MOST_TRIES: u32 = 1_000;
 
 // The modes of directories and files until they are whole: nobody else gets at them, and their owner
@@ -20,20 +20,20 @@ const BEGUN_FOLDER: u32 = 0o700;
 
 const BEGUN_FILE: u32 = 0o600;
 
-/// A directory that is to be made on disk. It is made under another name beside its place, and gets
-/// its own when it is whole.
+/// A directory that is to be made on disk. It is made under another name alongside its place, and
+/// gets its own when it is whole.
 ///
 /// Files get their modes, owners and times when they are closed, and directories at the end, those
 /// in a directory before it, so that one that nobody may write can be filled.
 #[derive(Drop)]
 pub struct DiskTarget<'a> {
     rt: &'a HostRuntime,
-    // where it is to stand, without slashes behind it
+    // the place that it is to have, without slashes at its end
     dir: &'a str,
     causes: &'a Causes,
     // whether owners and groups are to be kept
     wants_owners: bool,
-    // what there is until it is whole, once it was begun
+    // the parts until it is whole, once it was begun
     begun: Option<Begun>,
     // the file that is open
     file: Option<OpenFile>,
@@ -49,17 +49,17 @@ struct OpenFile {
 // A directory that was begun.
 #[derive(Drop)]
 struct Begun {
-    // where it stands
+    // its place
     beside: Made,
-    // the directories in it, each before those that stand in it, and what they are to have
+    // the directories in it, each before those in it, and what they are to have
     folders: Vec<(Made, Attributes)>,
     // what gives it all
     giving: Giving,
-    // what it is removed with where it is given up, also where there is no memory any more
+    // what it is removed with if it is given up, even if there is no memory any more
     removal: Removal,
 }
 
-// A directory that was made: where, and what tells it from all others.
+// A directory that was made: its place, and what distinguishes it from all others.
 #[derive(Drop)]
 struct Made {
     place: String,
@@ -67,7 +67,7 @@ struct Made {
 }
 
 impl Made {
-    // Whether it stands there, and no other and no symbolic link.
+    // Whether it is there, and no other and no symbolic link.
     fn is_there(&self, rt: &HostRuntime) -> bool {
         match fs::symlink_metadata(rt, self.place.as_str()) {
             Ok(metadata) => metadata.is_dir() && id_of(&metadata) == self.id,
@@ -94,7 +94,7 @@ impl<'a> DiskTarget<'a> {
         }
     }
 
-    // Where a path of the tree stands until the directory is whole.
+    // The place of a path of the tree until the directory is whole.
     fn place(&self, path: &[u8]) -> Result<String, Trouble> {
         let Ok(path) = str::from_utf8(path) else {
             return Err(Trouble::BadName);
@@ -105,7 +105,7 @@ impl<'a> DiskTarget<'a> {
         }
     }
 
-    // Makes a directory beside the place, by the first name that is free.
+    // Makes a directory alongside the place, by the first name that is free.
     fn make_beside(&self) -> Result<Made, Trouble> {
         for number in 0..MOST_TRIES {
             let place = format!(in self.rt.alloc(); "{}.part{number}", self.dir)?;
@@ -122,7 +122,7 @@ impl<'a> DiskTarget<'a> {
         Err(Trouble::Exists)
     }
 
-    // Whether something stands where the directory is to stand.
+    // Whether something is at the place that the directory is to have.
     fn is_taken(&self) -> bool {
         self.dir.is_empty() || fs::symlink_metadata(self.rt, self.dir).is_ok()
     }
@@ -255,7 +255,7 @@ impl Begun {
     }
 }
 
-// Gives a directory that was made what it is to have. What stands in its place and is not this
+// Gives a directory that was made what it is to have. Anything in its place that is not this
 // directory gets nothing, and is not opened.
 fn give_folder(
     rt: &HostRuntime,

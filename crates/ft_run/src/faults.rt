@@ -1,4 +1,4 @@
-// The line that tells of a fault.
+// The line that reports a fault.
 ghost use Rattle.std.specs.Prelude.{◌≡◌};
 ghost use Rattle.ft_run.specs.FaultLines.{fault_line, run_fault_line, trouble_name};
 
@@ -7,7 +7,7 @@ use ft_jobs::JobFault;
 use ft_outcome::RunFault;
 use ft_script::PlayFault;
 
-/// The line that tells of a fault, with its line feed.
+/// Returns the line that reports a fault, with its line feed.
 pub fn fault_line(fault: PlayFault) -> &'static str
     ensures { result.now ≡ fault_line fault }
 {

@@ -13,7 +13,8 @@ const SET_GROUP_ID: u16 = 0o2000;
 /// Gives open files and directories what they are to have, and counts what could not be kept.
 ///
 /// Only the superuser gives owners and groups, as with tar, and if the system refuses one, all else
-/// goes on. What does not get its owner and its group has no S_ISUID and S_ISGID.
+/// goes on. A file or directory that does not get its owner and its group has no S_ISUID and
+/// S_ISGID.
 #[derive(Drop)]
 pub struct Giving {
     // whether owners and groups are set
@@ -27,8 +28,9 @@ pub struct Giving {
 }
 
 impl Giving {
-    /// Owners and groups are set if that is wanted, by the superuser, to whom then the directory at
-    /// this place belongs, which was made before. Files that have no time get that of now.
+    /// Owners and groups are set if that is wanted, by the superuser. Then the directory at this
+    /// place, which was made before, belongs to the superuser. Files that have no time get that of
+    /// now.
     pub fn new(rt: &HostRuntime, wants_owners: bool, made: &str) -> Giving {
         let is_superuser = fs::symlink_metadata(rt, made).is_ok_and(|made| made.uid() == 0);
         Giving {
@@ -39,9 +41,9 @@ impl Giving {
         }
     }
 
-    /// Gives an open file or directory its mode, its owner and its group, and its S_ISUID and S_ISGID
-    /// last, since a change of the owner takes these away. Whoever may give owners may perhaps
-    /// set no mode behind that.
+    /// Gives an open file or directory its mode, its owner and its group, and its S_ISUID and
+    /// S_ISGID last, since a change of the owner removes these. Whoever may give owners may perhaps
+    /// set no mode after that.
     pub fn give(&mut self, file: &File, attributes: Attributes) -> io::Result<()> {
         set_mode(file, attributes.mode % SET_GROUP_ID)?;
         if self.own(file, attributes)? && attributes.mode >= SET_GROUP_ID {
@@ -50,7 +52,7 @@ impl Giving {
         Ok(())
     }
 
-    // Gives it its owner and its group, and answers whether it has them.
+    // Gives it its owner and its group, and returns whether it has them.
     fn own(&mut self, file: &File, attributes: Attributes) -> io::Result<bool> {
         if is_owned(&file.metadata()?, attributes) {
             return Ok(true);
@@ -69,8 +71,8 @@ impl Giving {
         Ok(is_given)
     }
 
-    /// Gives an open file the time of its bytes, and the moment where that is none which the system
-    /// can be given. It is read back, since a file system may cut what it has no room for.
+    /// Gives an open file the time of its bytes, and the present moment if there is none which the
+    /// system can be given. It is read back, since a file system may cut what it has no room for.
     pub fn set_time(&mut self, file: &File, time: Option<Timestamp>) -> io::Result<()> {
         let is_set = match time.and_then(system_time).or(self.moment) {
             Some(set) => file.set_modified(set).is_ok(),
@@ -86,7 +88,7 @@ impl Giving {
         Ok(())
     }
 
-    /// What could not be kept, in lines.
+    /// Returns what could not be kept, in lines.
     pub fn losses(&self, alloc: Global) -> Result<String, AllocError> {
         let mut lines = String::new(alloc);
         if self.owners_lost > 0 {
@@ -117,7 +119,7 @@ fn is_timed(metadata: &Metadata, time: Timestamp) -> bool {
 }
 
 // Whether the system lets nobody, or not this process, set such an owner: without the right to, in a
-// space of users where there is none such, or on a file system that has no owners.
+// user namespace without such an owner, or on a file system that has no owners.
 fn is_refused(error: &io::Error) -> bool {
     matches!(
         error.kind(),

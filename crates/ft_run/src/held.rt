@@ -1,4 +1,4 @@
-// A directory on disk that is held open, so that what stands in it is got at by itself.
+// A directory on disk that is held open, so that what is in it is got at by itself.
 use ft_copy::FileId;
 use std::fs::{File, Metadata};
 use std::os::fd::AsRawFd;
@@ -6,11 +6,11 @@ use std::os::unix::fs::MetadataExt;
 use std::{fs, io};
 
 /// A directory that is open. Whatever is put in its place, or in that of one around it, names in it
-/// are looked up in this very directory, if the system tells of open files in `/proc`.
+/// are looked up in this very directory, if the system shows open files in `/proc`.
 #[derive(Drop)]
 pub struct Held {
     pub id: FileId,
-    /// The path by which the system gets at it, without a slash behind it.
+    /// The path by which the system gets at it, without a slash at its end.
     pub place: String,
     // (it is closed with the rest)
     _folder: File,
@@ -18,7 +18,7 @@ pub struct Held {
 
 impl Held {
     /// Opens the directory at a place, which may be a symbolic link to it. `path` is its path
-    /// without `/proc`. The slash behind it keeps the system from waiting for a FIFO.
+    /// without `/proc`. The slash after it keeps the system from waiting for a FIFO.
     pub fn open(rt: &HostRuntime, place: &str, path: String) -> io::Result<Held> {
         let slashed = format!(in rt.alloc(); "{place}/")?;
         let folder = File::open(rt, slashed.as_str())?;
@@ -35,20 +35,20 @@ impl Held {
         })
     }
 
-    /// Which directory the path leads to by which the system gets at it: another one, if there is no
-    /// `/proc` and something was put in its place.
+    /// Returns the directory to which the system's path leads: another one, if there is no `/proc`
+    /// and something was put in its place.
     pub fn id_now(&self, rt: &HostRuntime) -> io::Result<FileId> {
         looked_into(rt, self.place.as_str())
     }
 }
 
-// Which directory stands at a place, or at the end of the symbolic link there.
+// The directory at a place, or at the end of the symbolic link there.
 fn looked_into(rt: &HostRuntime, place: &str) -> io::Result<FileId> {
     let slashed = format!(in rt.alloc(); "{place}/")?;
     Ok(id_of(&fs::symlink_metadata(rt, slashed.as_str())?))
 }
 
-/// What tells something from all else.
+/// Returns what distinguishes something from all else.
 pub fn id_of(metadata: &Metadata) -> FileId {
     FileId {
         device: metadata.dev(),

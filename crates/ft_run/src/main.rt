@@ -1,13 +1,13 @@
 //! The program `ft_run`: `ft_run play` runs a script of transactions on a tree of directories, from
-//! standard input to standard output; `ft_run dot` draws the last report on who waits for whom
-//! among the replies that such a run wrote; `ft_run jobs FILE` runs the jobs of a plan in threads,
-//! and prints what they came to; `ft_run load DIR` writes a script that makes what a directory
+//! standard input to standard output; `ft_run dot` draws the last report of which transaction waits
+//! for which among the replies that such a run wrote; `ft_run jobs FILE` runs the jobs of a plan in
+//! threads, and prints their outcome; `ft_run load DIR` writes a script that makes what a directory
 //! holds, and `ft_run save DIR` makes a directory of the tree with which replies end.
 //!
-//! It ends with status 0, also after a help text, with 1 after a fault, of which a line
-//! `fault: NAME` tells on standard error, with 2 where the command line asks for nothing that there
-//! is, and with 3 where a line of a strict script did not do what it asks for, a job of a strict
-//! plan did not end as it means, or `load` has left something out; what is written tells which.
+//! It ends with status 0, even after a help text; with 1 after a fault, which a line `fault: NAME`
+//! on standard error reports; and with 2 if the command line is not valid. It ends with 3 if a line
+//! of a strict script did not do what it requests, a job of a strict plan did not end as it means,
+//! or `load` has left something out; its output says which.
 #![tactic(auto)]
 
 mod causes;
@@ -136,8 +136,8 @@ fn words_given(rt: &HostRuntime) -> io::Result<Vec<String>> {
     Ok(env::args(rt)?.skip(1).collect(rt.alloc())?)
 }
 
-// Runs the script on standard input, which may say on its first line which limits it needs. Each of
-// its lines has to do what it asks for where it is strict.
+// Runs the script on standard input, whose first line may list the limits that it needs. If the run
+// is strict, each of its lines must do what it requests.
 fn run_script(
     rt: &HostRuntime,
     strict: bool,
@@ -174,8 +174,8 @@ fn fault_of(error: &io::Error) -> PlayFault {
     }
 }
 
-// The core and the plan of a run of jobs. Where one of them could not be had, it was told, and the
-// status to end with is answered.
+// The core and the plan of a run of jobs. If one of them could not be had, that was reported, and
+// the status to end with is returned.
 fn begun_jobs(
     rt: &HostRuntime,
     file: &str,
@@ -228,9 +228,9 @@ struct Loading {
     quiet: bool,
 }
 
-// Writes a script of a directory to standard output, or lists there what of it can't be loaded.
-// What the script needs is no more than is asked for, or where nothing is, than a core can have
-// that is played with flags. Ends with status 3 where something was left out.
+// Writes a script of a directory to standard output, or lists there what of it can't be loaded. The
+// script needs no more than is asked for, or if nothing is, than a core can have that is played
+// with flags. Ends with status 3 if something was left out.
 fn load_dir(rt: &HostRuntime, dir: &str, loading: &Loading, asked: AskedLimits) -> u8 {
     let causes = Causes::new();
     let most = asked.over(Limits {
@@ -257,7 +257,7 @@ fn load_disk<'a>(
     load_from(rt, &disk, causes, loading, needs)
 }
 
-// The same where what can't be loaded is left out or listed.
+// The same if what can't be loaded is left out or listed.
 fn load_rest<'a>(
     rt: &'a HostRuntime,
     disk: &DiskSource<'a>,
@@ -283,8 +283,8 @@ fn load_rest<'a>(
     status
 }
 
-// Writes a script of a source, which needs this, to standard output, or none where the source is
-// only checked.
+// Writes a script of a source, which needs this, to standard output, or none if the source is only
+// checked.
 fn load_from<S: Source>(
     rt: &HostRuntime,
     source: &S,
@@ -307,8 +307,8 @@ fn load_from<S: Source>(
     status
 }
 
-// Hands a script of a source, which needs this, to a writer. Where standard output is a terminal,
-// it is not shown how far it has come: what is written there tells.
+// Hands a script of a source, which needs this, to a writer. If standard output is a terminal,
+// progress is not shown: the script itself shows it.
 fn load_to<S: Source, W: Write + Drop>(
     rt: &HostRuntime,
     source: &S,
@@ -363,9 +363,9 @@ fn save_dir(rt: &HostRuntime, dir: &str, saving: &Saving, asked: AskedLimits) ->
 }
 
 // A core that grants calls by this rule, on which the script in a file was played first, if there
-// is one. It has the limits that are asked for, and else those that are needed or, where they are
-// greater, those that this script needs. Where that could not be, it was told, and the status to
-// end with is answered.
+// is one. It has the limits that are asked for, and else those that are needed or, if they are
+// greater, those that this script needs. If that could not be, it was reported, and the status to
+// end with is returned.
 fn core_for(
     rt: &HostRuntime,
     rule: Rule,
@@ -403,8 +403,8 @@ fn random_number(rt: &HostRuntime) -> u64 {
     }
 }
 
-// Where it is shown how far a command has come: on standard error, where that is a terminal, unless
-// nothing is to be shown.
+// The screen that shows progress: standard error, if that is a terminal, unless nothing is to be
+// shown.
 fn screen(rt: &HostRuntime, quiet: bool) -> Option<Stderr> {
     let errors = rt.stderr();
     if quiet || !errors.is_terminal() {

@@ -1,4 +1,4 @@
-// What no clause says: the line that tells of a fault, and what jobs came to.
+// No clause states this: the line that reports a fault, and the outcome of jobs.
 use crate::status::{jobs_status, play_status};
 use ft_after::core_after;
 use ft_core::{Limits, Rule};
@@ -111,7 +111,7 @@ fn status_and_fault_line(rt: HostRuntime) -> Result<(), Fail> {
     Ok(())
 }
 
-// One job: what it came to has one outcome.
+// One job, which has one outcome.
 const ONE_JOB: &[u8] = b"job a\nmkdir /a\nlist /\ncommit\n";
 
 const ONE_OUTCOME: &str =

@@ -1,4 +1,4 @@
-// How a directory on disk is removed where there may be no memory.
+// How a directory on disk is removed if there may be no memory.
 use ft_path::LONGEST_PATH;
 use std::alloc::{AllocError, Global};
 use std::fs::{Files, Permissions};
@@ -6,7 +6,7 @@ use std::io::Read;
 use std::os::unix::fs::PermissionsExt;
 use std::str;
 
-// So many bytes of names are read at once.
+// How many bytes of names are read at once.
 const NAMES: usize = 4_096;
 
 // The mode of a directory that is emptied.
@@ -46,9 +46,9 @@ impl Removal {
     }
 
     // Empties the directory at the path, up to one in it that is not empty: then the path is that
-    // of this one, and the answer is false. None where that can't be done. A symbolic link is
-    // removed, and never gone through. The directory may have its mode already, by which nobody
-    // may empty it.
+    // of this one, and it returns false. None if that can't be done. A symbolic link is removed,
+    // and never gone through. The directory may have its mode already, by which nobody may empty
+    // it.
     fn empty<F: Files>(&mut self, files: &F) -> Option<bool> {
         let place = text_of(self.path.as_slice())?;
         if !is_folder(files, place) {
@@ -69,7 +69,7 @@ impl Removal {
     }
 
     // Removes the directory at the path, which is empty, and goes back to the one that it is in.
-    // Answers whether there is more to do: the path of the whole has so many bytes.
+    // Returns whether there is more to do: the path of the whole has so many bytes.
     fn leave<F: Files>(&mut self, files: &F, top: usize) -> bool {
         let is_removed = match text_of(self.path.as_slice()) {
             Some(path) => files.remove_dir(path).is_ok(),
@@ -104,7 +104,7 @@ fn remove_names<F: Files>(files: &F, path: &mut Vec<u8>, names: &[u8]) -> Option
     Some(true)
 }
 
-// Whether a directory stands at a path, and no symbolic link that leads to one.
+// Whether a directory is at a path, and no symbolic link that leads to one.
 fn is_folder<F: Files>(files: &F, place: &str) -> bool {
     match files.symlink_metadata(place) {
         Ok(metadata) => metadata.is_dir(),

@@ -9,7 +9,7 @@ use std::alloc::AllocError;
 use std::cell::Cell;
 use std::fs::File;
 
-// Why something is left out, in the order in which that is told at the end.
+// The reasons to leave something out, in the order in which they are reported at the end.
 const REASONS: [Trouble; 6] = [
     Trouble::Special,
     Trouble::TooLarge,
@@ -19,18 +19,18 @@ const REASONS: [Trouble; 6] = [
     Trouble::Read,
 ];
 
-/// A directory on disk, which tells of what can't be loaded as of something special, and leaves
-/// that out. To know whether something can be loaded, it is listed, opened or read when it is looked
-/// at. At the root nothing is left out.
+/// A directory on disk, which reports what can't be loaded as something special, and leaves that
+/// out. To know whether something can be loaded, it is listed, opened or read when it is looked at.
+/// At the root nothing is left out.
 #[derive(Drop)]
 pub struct SkippingSource<'a, 'b> {
     rt: &'a HostRuntime,
     disk: &'b DiskSource<'a>,
     causes: &'a Causes,
     limits: CopyLimits,
-    // whether what is left out is listed on standard output, and not told on standard error
+    // whether what is left out is listed on standard output, and not reported on standard error
     is_listed: bool,
-    // whether it is told and counted
+    // whether it is reported and counted
     is_told: Cell<bool>,
     // why what was looked at last can't be loaded
     why: Cell<Trouble>,
@@ -39,7 +39,7 @@ pub struct SkippingSource<'a, 'b> {
 }
 
 impl<'a, 'b> SkippingSource<'a, 'b> {
-    /// Nothing was left out yet, and nothing is told until `begin`.
+    /// Nothing was left out yet, and nothing is reported until `begin`.
     pub fn new(
         rt: &'a HostRuntime,
         disk: &'b DiskSource<'a>,
@@ -66,12 +66,12 @@ impl<'a, 'b> SkippingSource<'a, 'b> {
         }
     }
 
-    /// From now on what is left out is told and counted.
+    /// From now on what is left out is reported and counted.
     pub fn begin(&self) {
         self.is_told.set(true);
     }
 
-    /// Tells how much was left out and why, and answers whether anything was.
+    /// Prints how much was left out and why, and returns whether anything was.
     pub fn tell(&self) -> Result<bool, AllocError> {
         let alloc = self.rt.alloc();
         let mut line = String::new(alloc);
@@ -90,7 +90,7 @@ impl<'a, 'b> SkippingSource<'a, 'b> {
         Ok(true)
     }
 
-    // Writes a line to where it is told what is left out.
+    // Writes a line to the stream that reports what is left out.
     fn write(&self, line: &str) {
         let _ = if self.is_listed {
             write_out(&mut self.rt.stdout(), line.as_bytes())
@@ -120,7 +120,7 @@ impl<'a, 'b> SkippingSource<'a, 'b> {
         Ok(())
     }
 
-    // Looks at a place, and fails for the reason why what stands there can't be loaded.
+    // Looks at a place, and fails for the reason why what is there can't be loaded.
     fn try_out(&self, path: &[u8], node: u64) -> Result<Found, Trouble> {
         let found = self.disk.look(path, node)?;
         match found {
@@ -143,7 +143,7 @@ impl<'a, 'b> SkippingSource<'a, 'b> {
         Ok(found)
     }
 
-    // Fails where something has too many names.
+    // Fails if something has too many names.
     fn judge(&self, facts: FileFacts) -> Result<(), Trouble> {
         if facts.links > self.limits.links {
             return Err(Trouble::TooManyLinks);
@@ -151,7 +151,7 @@ impl<'a, 'b> SkippingSource<'a, 'b> {
         Ok(())
     }
 
-    // Leaves out a name of a directory by which the path is too long, and answers whether it does.
+    // Leaves out a name of a directory by which the path is too long, and returns whether it does.
     fn is_too_long(&self, path: &[u8], listed: &Listed) -> Result<bool, Trouble> {
         let name = listed.name.as_bytes();
         if path.len().saturating_add(name.len()) < LONGEST_PATH {

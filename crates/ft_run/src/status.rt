@@ -29,8 +29,8 @@ use std::sync::Wait;
 use std::thread::Threads;
 use std::time::Clock;
 
-/// Runs a script on a core, and answers the status to end with: 0, or 1 after a fault, of which a
-/// line tells on `errors`. Where that line can't be written, the status is the same.
+/// Runs a script on a core, and returns the status to end with: 0, or 1 after a fault, which a line
+/// on `errors` reports. If that line can't be written, the status is the same.
 pub fn play_status<R: Read, W: Write, E: Write>(
     alloc: Global,
     core: Core,
@@ -53,9 +53,9 @@ pub fn play_status<R: Read, W: Write, E: Write>(
     }
 }
 
-/// Draws the last report on who waits for whom, and answers the status to end with: 0, or 1 after a
-/// fault, of which a line tells on `errors`. Where that line can't be written, the status is the
-/// same.
+/// Draws the last report of which transaction waits for which, and returns the status to end with:
+/// 0, or 1 after a fault, which a line on `errors` reports. If that line can't be written, the
+/// status is the same.
 pub fn dot_status<R: Read, W: Write, E: Write>(
     alloc: Global,
     reader: &mut R,
@@ -76,10 +76,10 @@ pub fn dot_status<R: Read, W: Write, E: Write>(
     }
 }
 
-/// Runs the jobs of a plan on a core where no transaction is live, and answers the status to end
-/// with: 0; 3 where the plan is strict and a job did not end as it means; or 1 after a fault, of
-/// which a line tells on `errors`. Where that line can't be written, the status is the same. How
-/// far the jobs have come is shown on a screen while they run, if there is one.
+/// Runs the jobs of a plan on a core in which no transaction is live, and returns the status to end
+/// with: 0; 3 if the plan is strict and a job did not end as it means; or 1 after a fault, which a
+/// line on `errors` reports. If that line can't be written, the status is the same. How far the
+/// jobs have come is shown on a screen while they run, if there is one.
 pub fn jobs_status<R: Threads + Wait + Clock + Sync, S: Write + Send + Drop, W: Write, E: Write>(
     rt: &R,
     alloc: Global,
@@ -105,7 +105,7 @@ pub fn jobs_status<R: Threads + Wait + Clock + Sync, S: Write + Send + Drop, W: 
     }
 }
 
-/// Tells of a fault by its line, and answers the status that it ends with.
+/// Reports a fault by its line, and returns the status that it ends with.
 pub fn failed<E: Write>(errors: &mut E, line: &str) -> u8
     ensures status { result ≡ 1 }
     ensures line { WritesFront (E.contents errors.old) (E.contents errors.new) line.now }
@@ -114,8 +114,8 @@ pub fn failed<E: Write>(errors: &mut E, line: &str) -> u8
     1
 }
 
-/// Tells why a script was not played first, and answers the status that it ends with. Where there
-/// is no memory for the line, that is told.
+/// Reports why a script was not played first, and returns the status that it ends with. If there is
+/// no memory for the line, that is reported.
 pub fn after_failed<E: Write>(alloc: Global, errors: &mut E, fault: AfterFault) -> u8
     ensures status { result ≡ 1 }
     ensures line { TellsLine (E.contents errors.old) (E.contents errors.new) (after_line fault) }
@@ -131,9 +131,9 @@ pub fn after_failed<E: Write>(alloc: Global, errors: &mut E, fault: AfterFault) 
     }
 }
 
-/// Writes a script of what a source tells, for a core with these limits, with the bits S_ISUID and
-/// S_ISGID of modes or without, and answers the writer and the status to end with: 0, or 1 after a
-/// fault, of which a line tells on `errors`, with the path where it came. How far it has come is
+/// Writes a script of what a source holds, for a core with these limits, with the bits S_ISUID and
+/// S_ISGID of modes or without. Returns the writer and the status to end with: 0, or 1 after a
+/// fault, which a line on `errors` reports, with the path at which it came. How far it has come is
 /// shown on a screen meanwhile, if there is one.
 pub fn load_status<R: Clock, S: Source, V: Write + Drop, W: Write, E: Write>(
     rt: &R,
@@ -161,9 +161,9 @@ pub fn load_status<R: Clock, S: Source, V: Write + Drop, W: Write, E: Write>(
     (writer, status)
 }
 
-/// Makes the tree with which replies end, if its files are within these limits, and answers the
-/// status to end with: 0, or 1 after a fault, of which a line tells on `errors`, with the path where
-/// it came.
+/// Makes the tree with which replies end, if its files are within these limits, and returns the
+/// status to end with: 0, or 1 after a fault, which a line on `errors` reports, with the path at
+/// which it came.
 pub fn save_status<R: Read, T: Target, E: Write>(
     alloc: Global,
     limits: CopyLimits,
@@ -196,7 +196,8 @@ fn save_failed<E: Write>(alloc: Global, errors: &mut E, fault: &SaveFault) -> u8
     }
 }
 
-// Tells why a copy was not made, and where. Where there is no memory for the line, that is told.
+// Reports why a copy was not made, and at which path. If there is not enough memory for the line,
+// that is reported.
 fn stopped_failed<E: Write>(alloc: Global, errors: &mut E, stopped: &Stopped) -> u8
     ensures status { result ≡ 1 }
     ensures line { TellsLine (E.contents errors.old) (E.contents errors.new) (stopped_line stopped.now) }

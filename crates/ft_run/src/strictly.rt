@@ -15,12 +15,12 @@ use ft_script::{FailedLine, PlayFault, StrictFault, play_strictly, write_out};
 use std::alloc::{AllocError, Global};
 use std::io::{Read, Write};
 
-// So many bytes of a line are shown.
+// How many bytes of a line are shown.
 const LONGEST_SHOWN: usize = 200;
 
-/// Runs a strict script on a core, and answers the status to end with: 0; 1 after a fault of
-/// reading, writing or memory; or 3 after the first line that did not do what it asks for. Of both
-/// a line tells on `errors`. Where that can't be written, the status is the same.
+/// Runs a strict script on a core, and returns the status to end with: 0; 1 after a fault of
+/// reading, writing or memory; or 3 after the first line that did not do what it requests. A line
+/// on `errors` reports either. If that can't be written, the status is the same.
 pub fn play_strictly_status<R: Read, W: Write, E: Write>(
     alloc: Global,
     core: Core,
@@ -47,8 +47,8 @@ pub fn play_strictly_status<R: Read, W: Write, E: Write>(
     }
 }
 
-// Tells which line did not do what it asks for, and answers the status that it ends with. Where
-// there is no memory for that, that is told.
+// Reports which line did not do what it requests, and returns the status that it ends with. If
+// there is not enough memory for that, that is reported.
 fn line_failed<E: Write>(alloc: Global, errors: &mut E, failed: &FailedLine) -> u8
     ensures status { result ≡ 3 }
     ensures line { TellsLine (E.contents errors.old) (E.contents errors.new) (strict_line failed.now) }
@@ -60,7 +60,7 @@ fn line_failed<E: Write>(alloc: Global, errors: &mut E, failed: &FailedLine) -> 
     3
 }
 
-// The line that tells of it.
+// The line that reports it.
 fn strict_line(alloc: Global, failed: &FailedLine) -> Result<Vec<u8>, AllocError>
     ensures { IfOk result (λ text. text.items ≡ strict_line failed.now) }
 {

@@ -29,11 +29,11 @@ folder_of words = option_map Folder (only number_of words)
 abbrev pub edge_of : List (List ℕ) → Option Row
 edge_of words = option_map (λ e. Edge e.0 (percent_decode e.1) e.2) (three number_of Some (only number_of) words)
 
--- a file has as many bytes as are told
+-- a file has as many bytes as its row says
 abbrev pub sized : ℕ → ℕ → List ℕ → Option Row
 sized node size bytes = if length bytes == size then Some (File node Regular bytes) else None
 
--- `NODE SIZE DATA`, where the data may be absent with its space
+-- `NODE SIZE DATA`; the data may be absent with its space
 abbrev pub file_of : List (List ℕ) → Option Row
 file_of words = option_and_then (λ f. sized f.0 f.1 (percent_decode f.2)) (three number_of number_of last_word words)
 
@@ -49,7 +49,7 @@ linked node bytes = if is_target bytes then Some (File node Link bytes) else Non
 abbrev pub link_of : List (List ℕ) → Option Row
 link_of words = option_and_then (λ l. linked l.0 (percent_decode l.1)) (both number_of last_word words)
 
--- attributes that are told of a number
+-- the attributes of a number
 abbrev pub with_attributes : ℕ → ℕ → ℕ → ℕ → Row
 with_attributes node mode owner group = Attributes node (record { mode = mode; owner = owner; group = group })
 
@@ -70,7 +70,7 @@ time_of words = option_and_then (λ t. timed t.0 t.1 t.2) (three number_of integ
 abbrev pub fd_of : List (List ℕ) → Option Row
 fd_of words = option_map (λ f. Descriptor) (three number_of number_of (both Some (only number_of)) words)
 
--- the row that the words behind its name tell
+-- the row that the words after its name describe
 abbrev pub row_by : List ℕ → List (List ℕ) → Option Row
 row_by word words =
     if bytes_eq word (codes "dir") then folder_of words
@@ -81,14 +81,14 @@ row_by word words =
     else (if bytes_eq word (codes "time") then time_of words
     else (if bytes_eq word (codes "fd") then fd_of words else None))))))
 
--- the row that a line tells, by its words
+-- the row that a line describes, by its words
 abbrev pub row_of : List (List ℕ) → Option Row
 row_of [] = None
 row_of (word ∷ words) = row_by word words
 
 -- ---- reports
 
--- lines that are just so many rows
+-- lines that are exactly so many rows
 abbrev pub rows_of : ℕ → List (List ℕ) → Option (List Row)
 rows_of zero [] = Some []
 rows_of zero (line ∷ lines) = None
@@ -99,7 +99,7 @@ rows_of (suc count) (line ∷ lines) = option_and_then (λ row. option_map (λ r
 abbrev pub tree_at : List ℕ → List (List ℕ) → Option (List Row)
 tree_at line lines = option_and_then (λ count. rows_of count lines) (count_of (words_of line))
 
--- one of two, the second where it is there
+-- one of two, the second if it is there
 abbrev pub later : {A : Type 0} → Option A → Option A → Option A
 later first None = first
 later first (Some other) = Some other

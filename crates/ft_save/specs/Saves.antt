@@ -1,4 +1,4 @@
--- What a save makes.
+-- The tree that a save makes.
 use Rattle.std.specs.Prelude.{◌≡◌, ◌⊎◌, ℕ, List, Option, None, Some}
 use Rattle.std.specs.Io.KnownBytes.{Consumes, IsAtEnd}
 use Rattle.ft_copy.specs.declared.limits.CopyLimits.{CopyLimits}
@@ -18,7 +18,7 @@ use Rattle.ft_save.specs.Trees.{Tells}
 abbrev pub IsLast : Option (List ℕ) → Option (List ℕ) → List Row → Type 0
 IsLast left left_after rows = (bytes : List ℕ) × Consumes left left_after bytes × IsAtEnd left_after × (tree_told bytes ≡ Some rows)
 
--- The same, and the tree that they tell of was copied.
+-- The same, and the tree that they describe was copied.
 abbrev pub Saves : {T : Type 0} → CopyLimits → Option (List ℕ) → Option (List ℕ) → (T → Asked → T → Type 0) → T → T → Type 0
 Saves limits left left_after does old new = (rows : List Row) × IsLast left left_after rows × Copies limits (Tells rows) does old new
 
@@ -39,14 +39,14 @@ FindsNone NoTree left left_after = HasNoTree left left_after
 FindsNone (Stopped stopped) left left_after = ⊥
 
 module _ {T : Type 0} (limits : CopyLimits) (does : T → Asked → T → Type 0) (fails : T → Asked → Trouble → T → Type 0) where
-  -- The tree that rows tell of was not copied: there was no memory for it, or the copy stopped.
+  -- The tree that rows describe was not copied: there was no memory for it, or the copy stopped.
   abbrev pub StopsRows : SaveFault → List Row → T → T → Type 0
   StopsRows (Replies fault) rows old new = (fault ≡ Memory) × (new ≡ old)
   StopsRows NoTree rows old new = ⊥
   StopsRows (Stopped stopped) rows old new = StopsCopy limits (Tells rows) does fails stopped old new
 
   -- Nothing was saved: no report was found, and the target was asked for nothing; or the tree that
-  -- it tells of was not copied.
+  -- it describes was not copied.
   abbrev pub StopsSave : SaveFault → Option (List ℕ) → Option (List ℕ) → T → T → Type 0
   StopsSave fault left left_after old new =
       (FindsNone fault left left_after × (new ≡ old)) ⊎ ((rows : List Row) × IsLast left left_after rows × StopsRows fault rows old new)

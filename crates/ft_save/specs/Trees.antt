@@ -1,4 +1,4 @@
--- The tree that the rows of a report tell of.
+-- The tree that the rows of a report describe.
 use Rattle.std.specs.Prelude.{◌≡◌, ◌⊎◌, ◌==◌, ℕ, Bool, true, false, not, List, [], ◌∷◌, ◌++◌, is_some, length, map, if◌then◌else◌, Option, None, Some, option_map}
 use Rattle.std.specs.Option.{option_map_or, unwrap_or}
 use Rattle.std.specs.FinMap as finite
@@ -38,7 +38,7 @@ own_in (Attributes other attributes ∷ rows) node = own_in rows node
 own_in (Time other time ∷ rows) node = own_in rows node
 own_in (Descriptor ∷ rows) node = own_in rows node
 
--- there is just one row of it, of a directory or a file
+-- there is exactly one row of it, of a directory or a file
 abbrev pub has_one_row : List Row → ℕ → Bool
 has_one_row rows node = option_map_or not (own_in rows node) false
 
@@ -106,7 +106,7 @@ time_in (Descriptor ∷ rows) node = time_in rows node
 
 -- ---- what they tell of a tree
 
--- what tells something from all else: its number
+-- what distinguishes something from all else: its number
 abbrev pub row_id : ℕ → FileId
 row_id node = record { device = 0; number = node }
 
@@ -127,8 +127,8 @@ found_as forms.Link file = found.Symlink file.facts
 abbrev pub is_top : List ℕ → Bool
 is_top path = length path == 0
 
--- A directory has one row of its own and one name at most, and is the root just where no name
--- leads. So no directory is in itself, or in two places.
+-- A directory has one row of its own and at most one name, and is the root exactly if no name leads
+-- to it. Therefore, no directory is in itself, or in two places.
 abbrev pub IsPlainFolder : List Row → List ℕ → ℕ → Type 0
 IsPlainFolder rows path node = (has_one_row rows node ≡ true) × (has_more rows node ≡ false) × ((node == ROOT) ≡ is_top path)
 
@@ -141,7 +141,7 @@ abbrev pub IsFile : List Row → List ℕ → ℕ → Form → FileFacts → Typ
 IsFile rows path node form facts =
     (bytes : List ℕ) × (file_in rows node ≡ Some (record { form = form; bytes = bytes })) × IsPlainFile rows path node × (facts ≡ file_facts node (has_more rows node) bytes)
 
--- What stands at a path, by its number: a plain file where there is a row of a file, or of a symbolic
+-- The thing at a path, by its number: a plain file if there is a row of a file, or of a symbolic
 -- link, or else a plain directory; with the attributes of their rows, or the default ones.
 abbrev pub IsFound : List Row → List ℕ → ℕ → Found → Type 0
 IsFound rows path node (found.Folder folder) =
@@ -152,7 +152,7 @@ IsFound rows path node (found.Symlink facts) = IsFile rows path node forms.Link 
 IsFound rows path node found.Special = ⊥
 
 -- a file with names in it or with no name that leads to it; or a directory that has more than one
--- name, and the root where a name leads to it, or something else at the root
+-- name, and the root if a name leads to it, or something else at the root
 abbrev pub IsMisplaced : Option Content → List Row → List ℕ → ℕ → Type 0
 IsMisplaced None rows path node = (has_more rows node ≡ true) ⊎ ((node == ROOT) ≡ not (is_top path))
 IsMisplaced (Some content) rows path node = (has_names rows node ≡ true) ⊎ (is_top path ≡ true)
@@ -161,7 +161,7 @@ IsMisplaced (Some content) rows path node = (has_names rows node ≡ true) ⊎ (
 abbrev pub IsNothing : List Row → List ℕ → ℕ → Type 0
 IsNothing rows path node = (has_one_row rows node ≡ false) ⊎ IsMisplaced (file_in rows node) rows path node
 
--- Why it cannot be told what stands there, or which names: which trouble comes when.
+-- The reasons why the thing at a path, or its names, can't be found: which trouble comes when.
 abbrev pub IsRefused : List Row → List ℕ → ℕ → Trouble → Type 0
 IsRefused rows path node Memory = Unit {0}
 IsRefused rows path node Read = file_in rows node ≡ None
@@ -169,7 +169,7 @@ IsRefused rows path node BadName = HasNoName (edges_in rows node)
 IsRefused rows path node BadTree = IsNothing rows path node
 IsRefused rows path node other = ⊥
 
--- What the rows of a report tell. Nothing is to be left out.
+-- The answers of the rows of a report, as a source. Nothing is to be left out.
 abbrev pub Tells : List Row → Told → Type 0
 Tells rows (Lists path node id names) = (id ≡ row_id node) × (names ≡ edges_in rows node)
 Tells rows (Finds path node found) = IsFound rows path node found
@@ -181,7 +181,7 @@ Tells rows (Refuses path node trouble) = IsRefused rows path node trouble
 
 -- ---- the index
 
--- a name of the index, as it is told
+-- a name of the index, as it is listed
 abbrev pub listed : IndexEdge → Listed
 listed edge = record { name = edge.name; node = edge.node }
 
@@ -189,7 +189,7 @@ listed edge = record { name = edge.name; node = edge.node }
 abbrev pub names_at : Index → ℕ → List Listed
 names_at index node = map listed (unwrap_or (finite.get index.edges node) [])
 
--- The index has what the rows tell of each number.
+-- The index has what the rows say of each number.
 pub record Indexes (index : Index) (rows : List Row) : Type 0 where
   pub own : (node : ℕ) → finite.get index.own node ≡ own_in rows node
   pub files : (node : ℕ) → finite.get index.files node ≡ file_in rows node
@@ -198,7 +198,7 @@ pub record Indexes (index : Index) (rows : List Row) : Type 0 where
   pub attributes : (node : ℕ) → finite.get index.attributes node ≡ attributes_in rows node
   pub times : (node : ℕ) → finite.get index.times node ≡ time_in rows node
 
--- a name was put behind those of its directory, and all else stays
+-- a name was put after those of its directory, and all else stays
 pub record PutsName (old : Index) (folder : ℕ) (edge : IndexEdge) (new : Index) : Type 0 where
   pub names : (node : ℕ) → names_at new node ≡ (if folder == node then names_at old node ++ listed edge ∷ [] else names_at old node)
   pub own : new.own ≡ old.own

@@ -1,4 +1,4 @@
-// The rows of a report, by the numbers that they tell of.
+// The rows of a report, by the numbers that they describe.
 ghost use Rattle.std.specs.Prelude.{◌≡◌, List, [], ◌∷◌, OnOk, IfOk};
 ghost use Rattle.std.specs.Option.{unwrap_or};
 ghost use Rattle.std.specs.FinMap as finite;
@@ -17,14 +17,14 @@ pub(crate) struct Edge {
     pub(crate) node: u64,
 }
 
-/// What a file holds: one that is a symbolic link, where it leads.
+/// The contents of a file; if it is a symbolic link, where it leads.
 #[derive(Drop)]
 pub(crate) struct Content {
     pub(crate) form: Form,
     pub(crate) bytes: Sequence<u8>,
 }
 
-/// The rows of a report, by the numbers that they tell of.
+/// The rows of a report, by the numbers that they describe.
 #[derive(Drop)]
 pub(crate) struct Index {
     pub(crate) alloc: Global,
@@ -48,7 +48,7 @@ impl Index {
     ghost use Rattle.ft_cells.specs.Attributes.{attributes_from};
     ghost use Rattle.ft_save.specs.Trees.{Indexes, attributes_in, has_names, has_one_row};
 
-    /// Whether there is just one row of this number, of a directory or a file.
+    /// Whether there is exactly one row of this number, of a directory or a file.
     pub(crate) fn has_one_row(&self, node: u64) -> bool
         ensures { (rows : List Row) → Indexes self.now rows → result ≡ has_one_row rows node }
     {
@@ -135,7 +135,7 @@ fn add_own(index: &mut Index, node: u64) -> Result<(), Memory>
     Ok(())
 }
 
-// Puts a name behind those of its directory.
+// Puts a name after those of its directory.
 fn add_edge(index: &mut Index, folder: u64, edge: Edge) -> Result<(), Memory>
     ensures { OnOk result (PutsName index.old folder edge index.new) }
 {

@@ -1,4 +1,4 @@
-//! The tree of a report, as a source: from replies to the tree that they tell of last.
+//! The tree of a report, as a source: from replies to the tree that they describe last.
 #![tactic(auto)]
 
 mod index;

@@ -13,10 +13,10 @@ use ft_words::{Lines, Words, integer_of, mode_of, number_of, short_number_of};
 use percent_encoding::percent_decode;
 use std::alloc::Global;
 
-/// The rows of the report of what the tree holds with which replies end.
+/// Returns the rows of the report of the tree with which replies end.
 ///
-/// A report is a line `tree N` and N rows. Nothing may stand behind it, and its last line has its
-/// line feed: replies that were cut off end with no report. Fails only for want of memory.
+/// A report is a line `tree N` and N rows. Nothing may come after it, and its last line has its
+/// line feed: replies that were cut off end with no report. Fails only for lack of memory.
 pub(crate) fn tree_told(alloc: Global, replies: &[u8]) -> Result<Option<Vec<Row>>, Memory>
     ensures { IfOk result (λ rows. option_map (λ list. list.items) rows ≡ tree_told replies.now) }
 {
@@ -52,7 +52,7 @@ fn last_tree(alloc: Global, lines: Lines<'_>) -> Result<Option<Vec<Row>>, Memory
     Ok(last)
 }
 
-// The rows of lines that are just so many.
+// The rows of lines that are exactly so many.
 fn rows_in(alloc: Global, count: u64, lines: Lines<'_>) -> Result<Option<Vec<Row>>, Memory>
     ensures { IfOk result (λ rows. option_map (λ list. list.items) rows ≡ rows_of count lines.entry) }
 {
@@ -75,7 +75,7 @@ fn rows_in(alloc: Global, count: u64, lines: Lines<'_>) -> Result<Option<Vec<Row
     Ok(Some(rows))
 }
 
-// The count of rows that a line tells.
+// The count of rows on a line.
 fn count_in(line: &[u8]) -> Option<u64>
     ensures { result ≡ count_of (words_of line.now) }
 {
@@ -86,7 +86,7 @@ fn count_in(line: &[u8]) -> Option<u64>
     number_of(words.only()?)
 }
 
-// The row that a line tells.
+// The row that a line describes.
 fn row_in(alloc: Global, line: &[u8]) -> Result<Option<Row>, Memory>
     ensures { IfOk result (λ row. row ≡ row_of (words_of line.now)) }
 {
@@ -143,7 +143,7 @@ fn edge_words<'a>(words: Words<'a>) -> Option<(u64, &'a [u8], u64)>
     Some((folder, name, node))
 }
 
-// `NODE SIZE DATA`, where the data may be absent with its space.
+// `NODE SIZE DATA`; the data may be absent with its space.
 fn file_in(alloc: Global, words: Words<'_>) -> Result<Option<Row>, Memory>
     ensures { IfOk result (λ row. row ≡ file_of words.entry) }
 {

@@ -11,7 +11,7 @@ use ft_copy::{
 };
 use std::alloc::Global;
 
-/// The tree that a report tells of.
+/// The tree that a report describes.
 #[derive(Clone, Copy)]
 pub(crate) struct Reported<'a> {
     pub(crate) index: &'a Index,
@@ -88,7 +88,7 @@ impl<'a> Source for Reported<'a> {
     }
 }
 
-// What tells something from all else: its number.
+// What distinguishes something from all else: its number.
 fn id_of(node: u64) -> FileId
     ensures { result ≡ row_id node }
 {
@@ -113,7 +113,7 @@ fn found(node: u64, more: bool, content: &Content, given: Given) -> Found
     }
 }
 
-// The names that are told. Bytes that are no name are refused.
+// The names that are listed. Bytes that are no name are refused.
 fn names_of(alloc: Global, edges: &[Edge]) -> Result<Vec<Listed>, Trouble>
     ensures ok { IfOk result (λ names. names.items ≡ map listed edges.now) }
     ensures err { IfErr result (λ trouble. (trouble ≡ Trouble.Memory) ⊎ ((trouble ≡ Trouble.BadName) × HasNoName (map listed edges.now))) }

@@ -15,14 +15,14 @@ pub enum Row {
         name: Sequence<u8>,
         node: u64,
     },
-    /// A file of a form, regular or a symbolic link, and its bytes: those of a link say where it
+    /// A file of a form, regular or a symbolic link, and its bytes: those of a link are where it
     /// leads.
     File {
         node: u64,
         form: Form,
         bytes: Sequence<u8>,
     },
-    /// The mode and the owners of a directory or file, where they are not the default ones.
+    /// The mode and the owners of a directory or file, if they are not the default ones.
     Attributes {
         node: u64,
         attributes: Attributes,

@@ -30,12 +30,12 @@ pub enum SaveFault {
     Stopped(Stopped),
 }
 
-/// Reads replies to their end, and makes the tree that the report tells of with which they end:
-/// directories, files with their bytes, further names as links, and behind all else the symbolic
-/// links. Directories and files have the modes and owners of their rows, and else the default ones,
-/// files the time of theirs; S_ISUID and S_ISGID are left out where the limits say so. Descriptors,
-/// and files that have no name, are left out. A report behind which anything stands is not taken,
-/// and no file that is larger than these limits allow.
+/// Reads replies to their end, and makes the tree of the report with which they end: directories,
+/// files with their bytes, further names as links, and after all else the symbolic links.
+/// Directories and files have the modes and owners of their rows, and else the default ones, files
+/// the time of theirs. S_ISUID and S_ISGID are left out if the limits say so. Descriptors, and
+/// files that have no name, are left out. A report after which anything comes is refused, and so is
+/// a file that is larger than these limits allow.
 pub fn save<R: Read, T: Target>(
     alloc: Global,
     limits: CopyLimits,
@@ -61,7 +61,7 @@ fn last_rows<R: Read>(alloc: Global, reader: &mut R) -> Result<Vec<Row>, SaveFau
     rows.ok_or(SaveFault::NoTree)
 }
 
-// Copies the tree that rows tell of.
+// Copies the tree that rows describe.
 fn copy_rows<T: Target>(
     alloc: Global,
     limits: CopyLimits,

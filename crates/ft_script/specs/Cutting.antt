@@ -4,7 +4,7 @@ use Rattle.std.specs.List.{flat_map, AllByRecursion}
 use Rattle.ft_script.specs.declared.playing.TheConstants.{LONGEST_LINE}
 use Rattle.ft_words.specs.Spelling.{IsFreeOf}
 
--- a line with the line feed behind it
+-- a line with the line feed after it
 abbrev pub ended : List ℕ → List ℕ
 ended bytes = bytes ++ 10 ∷ []
 
@@ -12,8 +12,8 @@ ended bytes = bytes ++ 10 ∷ []
 abbrev pub Fits : List ℕ → Type 0
 Fits bytes = length bytes ≤ LONGEST_LINE
 
--- The bytes are these lines, each with a line feed behind it, and then the rest. None of the
--- lines has a line feed in it, or is too long.
+-- The bytes are these lines, each with a line feed after it, and then the rest. None of the lines
+-- has a line feed in it, or is too long.
 pub record Cuts (bytes : List ℕ) (lines : List (List ℕ)) (rest : List ℕ) : Type 0 where
   pub whole : bytes ≡ flat_map ended lines ++ rest
   pub each : AllByRecursion (IsFreeOf 10) lines
@@ -23,8 +23,8 @@ pub record Cuts (bytes : List ℕ) (lines : List (List ℕ)) (rest : List ℕ) :
 abbrev pub BeginsTooLong : List ℕ → Type 0
 BeginsTooLong bytes = (front : List ℕ) × (back : List ℕ) × (bytes ≡ front ++ back) × IsFreeOf 10 front × (LONGEST_LINE < length front)
 
--- The bytes begin with this line, which has its line feed, or is all of them where the script
--- ends there; it is not too long.
+-- The bytes begin with this line, which has its line feed, or is all of them if the script ends
+-- there; it is not too long.
 pub record IsNext (ends : Type 0) (bytes line : List ℕ) : Type 0 where
   pub free : IsFreeOf 10 line
   pub fits : Fits line

@@ -1,5 +1,5 @@
--- What is gathered between two writes: lines are cut from bytes that were read, and carried out one
--- after another.
+-- The replies that are gathered between two writes: lines are cut from bytes that were read, and
+-- carried out one after another.
 use Rattle.std.specs.Prelude.{◌≡◌, ◌⊎◌, ◌+◌, ◌<◌, ℕ, suc, Bool, true, false, List, [], ◌∷◌, ◌++◌, length, Option, string_bytes}
 use Rattle.std.specs.Io.KnownBytes.{Appends}
 use Rattle.ft_core.specs.States.{State}
@@ -14,7 +14,7 @@ use Rattle.ft_script.specs.Runs.{Answers, IsTextOfRun, MayAnswer, StopsLine}
 use Rattle.ft_strict.specs.Strict.{AnswersStrictly}
 
 -- Lines were carried out, and then one more: it was answered so, and what is left of the bytes
--- behind it is the rest. The text of their replies is so long only with the last one.
+-- after it is the rest. The text of their replies is so long only with the last one.
 pub record GathersLines (answers : Answers) (on : Bool) (bytes rest : List ℕ) (count count_after : ℕ) (line reply text : List ℕ) (old new : State) : Type 0 where
   pub lines : List (List ℕ)
   pub behind : List ℕ
@@ -28,7 +28,7 @@ pub record GathersLines (answers : Answers) (on : Bool) (bytes rest : List ℕ) 
   pub whole : text ≡ before ++ reply
   pub counted : count_after ≡ suc (count + length lines)
 
--- Nothing was carried out, or some lines, and the run goes on behind them.
+-- Nothing was carried out, or some lines, and the run goes on after them.
 abbrev pub Gathers : Answers → List ℕ → List ℕ → ℕ → ℕ → List ℕ → State → State → Type 0
 Gathers answers bytes rest count count_after text old new =
     ((rest ≡ bytes) × (count_after ≡ count) × (text ≡ []) × (new ≡ old)) ⊎ ((line : List ℕ) × (reply : List ℕ) × GathersLines answers true bytes rest count count_after line reply text old new)
@@ -37,8 +37,8 @@ Gathers answers bytes rest count count_after text old new =
 abbrev pub FailsGathering : List ℕ → ℕ → ℕ → List ℕ → List ℕ → List ℕ → State → State → Type 0
 FailsGathering bytes count count_after line reply text old new = (rest : List ℕ) × GathersLines AnswersStrictly false bytes rest count count_after line reply text old new
 
--- What became of the bytes behind lines at which a fault came: there was no memory for the next
--- line or its reply, or it is too long.
+-- The effect of a fault on the bytes after lines that were carried out: there was no memory for the
+-- next line or its reply, or it is too long.
 abbrev pub StopsAnswering : Answers → PlayFault → List ℕ → State → State → Type 0
 StopsAnswering answers Memory bytes old new = (new ≡ old) ⊎ ((rest : List ℕ) × (line : List ℕ) × GivesLine bytes rest line × MayAnswer answers line old new)
 StopsAnswering answers TooLong bytes old new = BeginsTooLong bytes × (new ≡ old)
@@ -46,7 +46,7 @@ StopsAnswering answers Read bytes old new = ⊥
 StopsAnswering answers Turns bytes old new = ⊥
 StopsAnswering answers Write bytes old new = ⊥
 
--- Lines were carried out up to a fault. The replies to them are not as many as have to be written.
+-- Lines were carried out up to a fault. The replies to them are not as many as must be written.
 pub record StopsGathering (answers : Answers) (fault : PlayFault) (bytes text : List ℕ) (old new : State) : Type 0 where
   pub rest : List ℕ
   pub state : State
@@ -56,7 +56,7 @@ pub record StopsGathering (answers : Answers) (fault : PlayFault) (bytes text : 
   pub few : length text < MOST_GATHERED
   pub stops : StopsAnswering answers fault rest state new
 
--- What became of the last line of a strict script, where so many lines were cut with it.
+-- The outcome of the last line of a strict script, if so many lines were cut with it.
 abbrev pub StopsLastStrictly : StrictFault → ℕ → List ℕ → Option (List ℕ) → Option (List ℕ) → State → State → Type 0
 StopsLastStrictly (Play fault) count line before after old new = StopsLine AnswersStrictly fault line before after old new
 StopsLastStrictly (Line failed) count line before after old new =

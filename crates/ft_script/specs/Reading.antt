@@ -13,7 +13,7 @@ use Rattle.ft_words.specs.Spelling.{IsFreeOf}
 abbrev pub begun : ScriptLines → List ℕ
 begun lines = if lines.is_cut then [] else lines.line.items
 
--- what was read and is not cut yet: the line that has begun, and what stands in no line
+-- what was read and is not cut yet: the line that has begun, and what is in no line
 abbrev pub uncut : ScriptLines → List ℕ
 uncut lines = begun lines ++ take (lines.end - lines.start) (drop lines.start lines.chunk.items)
 
@@ -25,7 +25,7 @@ cut_line lines = lines.line.items
 abbrev pub cut_count : ScriptLines → ℕ
 cut_count lines = lines.count
 
--- how many bytes were read that stand in no line yet
+-- how many bytes were read that are in no line yet
 abbrev pub unscanned : ScriptLines → ℕ
 unscanned lines = lines.end - lines.start
 
@@ -33,7 +33,7 @@ unscanned lines = lines.end - lines.start
 abbrev pub to_read : ScriptLines → ℕ
 to_read lines = unscanned lines + (CHUNK + 1) * lines.reads_left
 
--- all that was read stands in lines, and one more can be counted
+-- all that was read is in lines, and one more can be counted
 abbrev pub HasRoom : ScriptLines → Type 0
 HasRoom lines = (lines.start ≡ lines.end) × (lines.count + 1 + lines.end + CHUNK * lines.reads_left ≤ CHUNK * MOST_READS + lines.start)
 

@@ -1,8 +1,8 @@
--- What a run of a script writes. What a reader has left and a writer holds (`Consumes`,
--- `Appends`, `Keeps`, `IsAtEnd`) are std's words (KnownBytes). They claim nothing of a reader or
--- a writer whose bytes no contract knows, as standard input and output. So the clauses of `play`
--- say for those that some bytes were read and that what was handed to the writer is the text of a
--- run of their lines, as far as the writer's own contract says what it took.
+-- The text that a run of a script writes. For what a reader has left and a writer holds,
+-- `Consumes`, `Appends`, `Keeps` and `IsAtEnd` are std's words (KnownBytes). They claim nothing of
+-- a reader or a writer whose bytes no contract knows, as standard input and output. For those the
+-- clauses of `play` say only that some bytes were read and that what was handed to the writer is
+-- the text of a run of their lines, as far as the writer's own contract says what it took.
 use Rattle.std.specs.Prelude.{◌≡◌, ◌⊎◌, ◌<◌, ℕ, suc, Bool, true, false, List, [], ◌∷◌, ◌++◌, length, Option, string_bytes}
 use Rattle.std.specs.List.{AllByRecursion}
 use Rattle.std.specs.Io.KnownBytes.{Appends, Consumes, IsAtEnd, Keeps}
@@ -19,17 +19,17 @@ use Rattle.ft_replies.specs.Requests.{meaning_of}
 use Rattle.ft_replies.specs.Lines.{GivesText}
 use Rattle.ft_strict.specs.Strict.{AnswersStrictly}
 
--- How the lines of a script are answered: whether the run goes on behind a line, the state of the
+-- How the lines of a script are answered: whether the run goes on after a line, the state of the
 -- core before, the bytes of the line, the text of its reply, and the state then.
 abbrev pub Answers : Type 1
 Answers = Bool → State → List ℕ → List ℕ → State → Type 0
 
--- The run goes on behind each line.
+-- The run goes on after each line.
 abbrev pub AnswersFreely : Answers
 AnswersFreely on old bytes text new = (on ≡ true) × GivesText old (meaning_of bytes) text new
 
--- The text of a run: what is written for lines, one after another, from the one state of a core
--- to the other. It goes on behind each of them.
+-- The text of a run: what is written for lines, one after another, from the one state of a core to
+-- the other. It goes on after each of them.
 abbrev pub IsTextOfRun : Answers → State → List (List ℕ) → List ℕ → State → Type 0
 IsTextOfRun answers old [] text new = (text ≡ []) × (new ≡ old)
 IsTextOfRun answers old (bytes ∷ lines) text new =
@@ -56,7 +56,7 @@ MayAnswer answers bytes old new = (new ≡ old) ⊎ ((on : Bool) × (text : List
 
 -- ---- faults
 
--- What became of the line at which a fault came, where its reply was to be written alone. At Memory
+-- The outcome of the line at which a fault came, if its reply was to be written alone. At Memory
 -- (for the line or for its reply's text) nothing of its reply was written, and it was carried out
 -- or not. At Write it was carried out, and a part of its reply was written.
 abbrev pub StopsLine : Answers → PlayFault → List ℕ → Option (List ℕ) → Option (List ℕ) → State → State → Type 0
@@ -88,7 +88,7 @@ pub record LosesReplies (answers : Answers) (ends : Type 0) (bytes : List ℕ) (
 abbrev pub Stays : Option (List ℕ) → Option (List ℕ) → State → State → Type 0
 Stays before after old new = Keeps before after × (new ≡ old)
 
--- What a fault left of the bytes behind the lines that were taken before it, whose replies were
+-- The effect of a fault on the bytes after the lines that were taken before it, whose replies were
 -- written. At Memory: nothing more, or the next line was carried out or not. At Write: the replies
 -- to more lines were lost. At Read and Turns: there is no line feed in them, and nothing more was
 -- taken or written. At TooLong: they begin with a line that is too long, and nothing more was taken
@@ -100,9 +100,9 @@ StopsIn answers Read ends rest before after old new = IsFreeOf 10 rest × Stays 
 StopsIn answers Turns ends rest before after old new = IsFreeOf 10 rest × Stays before after old new
 StopsIn answers TooLong ends rest before after old new = BeginsTooLong rest × Stays before after old new
 
--- A line of a strict script was carried out and its reply written, and the run does not go on
--- behind it: the fault tells its number, from 1, where so many lines were taken before it, its
--- bytes, and its reply.
+-- A line of a strict script was carried out and its reply written, and the run does not go on after
+-- it. The fault has its number, from 1, if so many lines were taken before it, its bytes, and its
+-- reply.
 abbrev pub FailsLine : FailedLine → ℕ → List ℕ → Option (List ℕ) → Option (List ℕ) → State → State → Type 0
 FailsLine failed taken bytes before after old new =
     AnswersStrictly false old bytes (string_bytes failed.reply) new × Appends before after (string_bytes failed.reply) × (failed.number ≡ suc taken) × (failed.line.items ≡ bytes)
@@ -111,9 +111,9 @@ FailsLine failed taken bytes before after old new =
 abbrev pub FailsIn : FailedLine → Type 0 → ℕ → List ℕ → Option (List ℕ) → Option (List ℕ) → State → State → Type 0
 FailsIn failed ends taken rest before after old new = (bytes : List ℕ) × IsNext ends rest bytes × FailsLine failed taken bytes before after old new
 
--- How far a run came that ended with a fault, of the bytes that were read: first lines, with
--- their line feeds, were taken, and all their replies written; and then the fault left the rest
--- so, behind so many lines.
+-- How far a run came that ended with a fault, of the bytes that were read: first lines, with their
+-- line feeds, were taken, and all their replies written; and then the fault left the rest so, after
+-- so many lines.
 pub record Stopped (answers : Answers) (stops : ℕ → List ℕ → Option (List ℕ) → Option (List ℕ) → State → State → Type 0) (bytes : List ℕ) (before after : Option (List ℕ)) (old new : State) : Type 0 where
   pub lines : List (List ℕ)
   pub rest : List ℕ
@@ -135,7 +135,7 @@ abbrev pub StopsAt : Answers → PlayFault → Option (List ℕ) → Option (Lis
 StopsAt answers fault left left_after held held_after old new =
     (bytes : List ℕ) × Consumes left left_after bytes × Stopped answers (λ taken. StopsIn answers fault (IsAtEnd left_after)) bytes held held_after old new
 
--- The same of a strict script. A fault may be the first line that did not do what it asks for.
+-- The same of a strict script. A fault may be the first line that did not do what it requests.
 abbrev pub StopsStrictly : StrictFault → Option (List ℕ) → Option (List ℕ) → Option (List ℕ) → Option (List ℕ) → State → State → Type 0
 StopsStrictly (Play fault) left left_after held held_after old new = StopsAt AnswersStrictly fault left left_after held held_after old new
 StopsStrictly (Line failed) left left_after held held_after old new =

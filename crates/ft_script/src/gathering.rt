@@ -12,7 +12,7 @@ use ft_base::Memory;
 use std::alloc::Global;
 use std::io::{Read, Write};
 
-// So many bytes of replies are written before the next line is carried out.
+// How many bytes of replies are written before the next line is carried out.
 const MOST_GATHERED: usize = 65_536;
 
 /// A script, and the replies to it that are not written yet.
@@ -35,8 +35,8 @@ impl Script {
         })
     }
 
-    /// Reads more, if all that was read stands in lines, and once all replies to these are written.
-    /// Answers whether there is something to cut; if not, the script has ended.
+    /// Reads more, if all that was read is in lines that have ended, and once all replies to these
+    /// are written. Returns whether there is something to cut; if not, the script has ended.
     pub(crate) fn read_more<R: Read>(&mut self, reader: &mut R) -> Result<bool, PlayFault>
         requires written { self.old.replies.items ≡ [] }
         ensures bytes { OnOk result ((read : List ℕ) × Consumes (R.remaining reader.old) (R.remaining reader.new) read × (uncut self.new.lines ≡ uncut self.old.lines ++ read)) }
@@ -49,7 +49,7 @@ impl Script {
         self.lines.read_more(reader)
     }
 
-    /// Whether fewer replies are gathered than have to be written.
+    /// Whether fewer replies are gathered than must be written.
     pub(crate) fn may_gather(&self) -> bool
         ensures yes { result ≡ true → length self.now.replies.items < MOST_GATHERED }
         ensures no { result ≡ false → MOST_GATHERED ≤ length self.now.replies.items }

@@ -1,4 +1,4 @@
-//! Scripts: lines that ask for transactions and calls, read, carried out one after another, and
+//! Scripts: lines that request transactions and calls, read, carried out one after another, and
 //! answered.
 #![tactic(auto)]
 

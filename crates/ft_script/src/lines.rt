@@ -17,12 +17,12 @@ use std::io::{ErrorKind, Read};
 const CHUNK: usize = 65_536;
 
 /// The lines of a script, which a reader gives in pieces: the last one that was cut, and what comes
-/// behind it.
+/// after it.
 #[derive(Drop)]
 pub(crate) struct ScriptLines {
     // what was read last
     chunk: Vec<u8>,
-    // where what was read and is in no line yet stands in it
+    // the place in it of what was read and is in no line yet
     start: usize,
     end: usize,
     // the line that has begun, or was cut last
@@ -74,15 +74,15 @@ impl ScriptLines {
         self.count
     }
 
-    /// The line that was cut last, with nothing behind it.
+    /// Returns the line that was cut last, with nothing after it.
     pub(crate) fn into_line(self) -> Vec<u8>
         ensures { result.items ≡ cut_line self }
     {
         self.line
     }
 
-    /// Reads more, if all that was read stands in lines. Answers whether there is something to cut;
-    /// if not, the script has ended.
+    /// Reads more, if all that was read is in lines that have ended. Returns whether there is
+    /// something to cut; if not, the script has ended.
     pub(crate) fn read_more<R: Read>(&mut self, reader: &mut R) -> Result<bool, PlayFault>
         ensures bytes { OnOk result ((read : List ℕ) × Consumes (R.remaining reader.old) (R.remaining reader.new) read × (uncut self.new ≡ uncut self.old ++ read)) }
         ensures more { IfOk result (λ more. more ≡ true → (0 < unscanned self.new) × (to_read self.new ≤ to_read self.old)) }
@@ -99,7 +99,7 @@ impl ScriptLines {
         Ok(count > 0)
     }
 
-    /// Cuts the next line of what was read, and answers whether there is one that has ended.
+    /// Cuts the next line of what was read, and returns whether there is one that has ended.
     pub(crate) fn cut(&mut self) -> Result<bool, PlayFault>
         ensures line { IfOk result (λ found. found ≡ true → GivesLine (uncut self.old) (uncut self.new) (cut_line self.new)) }
         ensures count { IfOk result (λ found. found ≡ true → cut_count self.new ≡ cut_count self.old + 1) }
@@ -128,7 +128,7 @@ impl ScriptLines {
         }
     }
 
-    /// Cuts the last line, which has no line feed, if it has a byte. Answers whether it has.
+    /// Cuts the last line, which has no line feed, if it has a byte. Returns whether it has.
     pub(crate) fn cut_last(&mut self) -> bool
         requires { HasRoom self.old }
         ensures some { result ≡ true → (uncut self.old ≡ cut_line self.new) × (0 < length (cut_line self.new)) × IsFreeOf 10 (cut_line self.new) × Fits (cut_line self.new) }
@@ -184,7 +184,7 @@ fn drop_cut(line: &mut Vec<u8>, is_cut: bool)
     }
 }
 
-// Puts bytes behind those of a line that has begun.
+// Puts bytes after those of a line that has begun.
 fn lengthen(begun: &mut Vec<u8>, piece: &[u8]) -> Result<(), PlayFault>
     ensures ok { OnOk result (begun.new.items ≡ begun.old.items ++ piece.now) }
     ensures fits { OnOk result (Fits begun.new.items) }

@@ -65,19 +65,19 @@ impl From<AllocError> for PlayFault {
 /// Runs the script that a reader gives, up to its end, and writes the replies.
 ///
 /// The script is read in pieces of up to 65,536 bytes. All lines that have come whole are carried
-/// out, and their replies are written together, before more is read. Where they have 65,536 bytes
-/// or more they are written before the next line is carried out. After each commit and abort that
-/// is not refused, the core sweeps what it has let go.
+/// out, and their replies are written together, before more is read. If they have 65,536 bytes or
+/// more they are written before the next line is carried out. After each commit and abort that is
+/// not refused, the core sweeps what it has released.
 ///
 /// A fault ends the run early. Unless it is Write, all lines before the one at which it came were
 /// taken, and their replies written whole; no later line was taken.
-/// - Memory: there was none for a line or for the text of a reply, of which nothing was written.
-///   The line was carried out or not. (Want of memory in a request or for what a report tells of
-///   is a refusal, and is replied.)
+/// - Memory: there was none for a line or for the text of a reply. Nothing of that reply was
+///   written. The line was carried out or not. (Lack of memory in a request or for the contents of
+///   a report is a refusal, and is replied.)
 /// - Read: a read failed. A line that had not ended was not taken.
-/// - Write: a write failed, was interrupted or took nothing. Of the replies that were to be written
-///   together a beginning was written, or nothing; all lines to which they reply were carried out.
-///   Without the last of them they have fewer than 65,536 bytes.
+/// - Write: a write failed, was interrupted or took nothing. A beginning of the replies that were
+///   to be written together was written, or nothing; all lines to which they reply were carried
+///   out. Without the last of them they have fewer than 65,536 bytes.
 /// - TooLong: a line has more than `LONGEST_LINE` bytes. It was not taken.
 /// - Turns: `MOST_READS` reads did not reach the end. An interrupted read counts, and is tried
 ///   again. A line that had not ended was not taken.

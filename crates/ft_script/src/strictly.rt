@@ -1,4 +1,4 @@
-// Runs a strict script: each line has to do what it asks for.
+// Runs a strict script: each line must do what it requests.
 ghost use Rattle.std.specs.Prelude.{◌≡◌, ◌<◌, ℕ, List, [], true, string_bytes, IfErr, IfOk, MatchOption, OnOk};
 ghost use Rattle.std.specs.Io.KnownBytes.{Appends};
 ghost use Rattle.ft_script.specs.Gathering.{FailsGathering, Gathers, StopsGathering, StopsLastStrictly};
@@ -16,7 +16,7 @@ use ft_strict::strict_reply_to;
 use std::alloc::Global;
 use std::io::{Read, Write};
 
-/// A line that did not do what it asks for.
+/// A line that did not do what it requests.
 #[derive(Debug, PartialEq, Eq, Drop)]
 pub struct FailedLine {
     /// Its number, from 1.
@@ -30,9 +30,10 @@ pub struct FailedLine {
 /// Why `play_strictly` ended early.
 #[derive(Debug, PartialEq, Eq, Drop)]
 pub enum StrictFault {
-    /// As `play` ends early. There was no memory for a request or for what a report tells of, too.
+    /// A fault of `play`. Lack of memory for a request, or for the contents of a report, is one
+    /// too.
     Play(PlayFault),
-    /// A line did not do what it asks for.
+    /// A line did not do what it requests.
     Line(FailedLine),
 }
 
@@ -60,12 +61,12 @@ impl From<Memory> for StrictFault {
 }
 
 /// Runs a strict script as `play` runs a script, but up to the first line that does not do what it
-/// asks for: its reply is written, it is the fault, and no later line is taken.
+/// requests: its reply is written, it is the fault, and no later line is taken.
 ///
-/// A line that asks for nothing that there is, a request that is refused, fails or waits, and a
-/// `tree` while a transaction is live, which is refused as `Live`, do not do what they ask for. The
-/// run goes on all the same behind a request or a report that `try ` stands before. Where there is
-/// no memory for a request, or for what a report tells of, that is the fault.
+/// These lines do not do what they request: a line that is not a valid request, a request that is
+/// refused, fails or waits, and a `tree` while a transaction is live, which is refused as `Live`.
+/// After `try `, a request or a report does not end the run. If there is no memory for a request,
+/// or for the contents of a report, that is the fault.
 pub fn play_strictly<R: Read, W: Write>(
     alloc: Global,
     reader: &mut R,
@@ -96,7 +97,7 @@ pub fn play_strictly<R: Read, W: Write>(
 }
 
 // Carries out the lines that were read, until enough replies are gathered, or up to the first that
-// did not do what it asks for, and answers the reply to that.
+// did not do what it requests, and returns the reply to that.
 fn answer_strictly(
     alloc: Global,
     script: &mut Script,

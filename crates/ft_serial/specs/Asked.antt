@@ -15,7 +15,7 @@ use Rattle.ft_serial.specs.Serials.{stamped}
 abbrev pub Lists : Type 0
 Lists = finite.FinMap nat_cmp (Vec Asked Global)
 
--- the list of one top-level transaction, empty where it has none
+-- the list of one top-level transaction, empty if it has none
 abbrev pub listed : Option (Vec Asked Global) → List Asked
 listed None = []
 listed (Some calls) = calls.items

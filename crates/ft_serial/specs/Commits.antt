@@ -1,4 +1,4 @@
--- What has been gone over of a core's events.
+-- The core's events that have been gone over.
 use Rattle.std.specs.Prelude.{ℕ, ◌-◌, ◌+◌, List, Option, length, reverse, take}
 use Rattle.std.specs.declared.snapshot.Snapshot.{Snapshot}
 use Rattle.ft_posix.specs.declared.stamped.StampedCall.{StampedCall}
@@ -26,8 +26,8 @@ but_last calls n = take (length calls - n) calls
 abbrev pub given_by : Walk → List Event → List StampedCall
 given_by walk events = but_last (committed_in events) (length (joined (standing_call (told events)) (reverse walk.closing.items)))
 
--- What a walk has gone over and given out, where it forgot what had happened on a first core, and
--- saw what had happened on a second one.
+-- The events and calls that a walk has gone over and given out, if it forgot the events of a first
+-- core, and saw those of a second one.
 abbrev pub passed_by : Walk → Option (Snapshot StoredState) → Option (Snapshot StoredState) → List Event
 passed_by walk since seen = take (forgotten_by since + walk.passed) (events_then seen)
 

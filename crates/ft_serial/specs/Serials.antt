@@ -17,7 +17,7 @@ use Rattle.ft_core.specs.Reached.{IsReached}
 use Rattle.ft_core.specs.Steps.{IsStep, exact_rule}
 use Rattle.ft_record.specs.Going.{GoesOn}
 
--- a granted call with its stamp alone
+-- a granted call with only its stamp
 abbrev pub stamped : Granted → StampedCall
 stamped c = record { stamp = c.call.stamp; call = c.call.call }
 
@@ -30,7 +30,7 @@ committed_in events = map stamped (committed_part posix_calls (told events))
 abbrev pub committed_calls : State → List StampedCall
 committed_calls s = committed_in s.events
 
--- All standing calls in the serial order: the committed ones, and behind them the others in the
+-- All standing calls in the serial order: the committed ones, and after them the others in the
 -- order of their stamps.
 abbrev pub serial_calls : State → List StampedCall
 serial_calls s = map stamped (serial_list posix_calls (history s))
@@ -45,16 +45,16 @@ pub record RunsSerially (s : State) : Type 0 where
   pub distinct : Pairs (λ a b. a.call.stamp ≢ b.call.stamp) (serial_list posix_calls (history s))
   -- and their stamps are above the base's last one.
   pub since : Each (λ c. s.base.last_stamp < c.call.stamp) (serial_list posix_calls (history s))
-  -- The committed calls alone give their replies too.
+  -- If only the committed calls are made, they give their replies too.
   pub committed : GiveReplies s.base.tree (committed_part posix_calls (history s))
 
--- The base, the rule and the limits are the same, and the events and the committed calls from before
--- stand first.
+-- The base, the rule and the limits are the same, and the events and the committed calls from
+-- before come first.
 pub record Grows (old new : State) : Type 0 where
   pub goes_on : GoesOn old new
   pub committed : IsPrefix (committed_calls old) (committed_calls new)
 
--- So it is after each request but a checkpoint, which makes the tree the base and forgets what
--- has happened.
+-- This holds after each request except a checkpoint, which makes the tree the base and forgets the
+-- events.
 abbrev pub CommittedStays : Type 0
 CommittedStays = (old : State) (new : StoredState) (request : Request) (answer : Answer) → IsReached new → request ≢ Checkpoint → IsStep exact_rule old request answer new.state → Grows old new.state

@@ -1,4 +1,4 @@
--- How a walk along the events of a core stands, inside the crate.
+-- The state of a walk along the events of a core, inside the crate.
 use Rattle.std.specs.Prelude.{◌≡◌, ◌<◌, ◌+◌, ℕ, Bool, true, false, not, cond, ◌&&◌, List, [], ◌∷◌, ◌++◌, Option, Some, None, Result, Ok, Err, map, length, reverse, take}
 use Rattle.std.specs.Ordering.{nat_cmp}
 use Rattle.std.specs.FinMap as finite
@@ -32,7 +32,7 @@ is_aborted (Some IsLive) = false
 is_aborted (Some IsCommitted) = false
 is_aborted (Some IsAborted) = true
 
--- what is made of the stamp, the asker and the call, where an event grants a call
+-- what is made of the stamp, the asker and the call, if an event grants a call
 abbrev pub by_call : {A : Type 0} → A → (ℕ → ℕ → CallOf → A) → Option Event → A
 by_call other made None = other
 by_call other made (Some (Begin txn parent)) = other
@@ -54,16 +54,16 @@ without_calls undone (call ∷ calls) = without_calls (finite.remove undone call
 abbrev pub stands : (ℕ → Bool) → History → ℕ → ℕ → Bool
 stands undone h stamp txn = not (undone stamp) && not (is_gone posix_calls h txn)
 
--- the call that an event grants stands, and its top-level transaction has not committed
+-- the call that an event grants is standing, and its top-level transaction has not committed
 abbrev pub is_open_call : (ℕ → Bool) → History → Option Event → Bool
 is_open_call undone h = by_call false (λ stamp txn call. stands undone h stamp txn && not (is_committed posix_calls h (root (parent posix_calls h) txn)))
 
--- a call as a list, empty where there is none
+-- a call as a list, empty if there is none
 abbrev pub option_list : Option StampedCall → List StampedCall
 option_list None = []
 option_list (Some call) = call ∷ []
 
--- a call, where it stands in the history
+-- a call, if it is standing in the history
 abbrev pub standing_call : History → Asked → List StampedCall
 standing_call h a = cond (stands (is_undone posix_calls h) h a.call.stamp a.txn) (a.call ∷ []) []
 
@@ -95,21 +95,20 @@ pub record IsWalkBy (forgotten : ℕ) (walk : Walk) (h : History) (events : List
   -- of which are all committed calls that were not given out.
   pub split : map stamped (committed_part posix_calls h) ≡ given ++ joined (standing_call h) (reverse walk.closing.items)
 
--- The same, where the history is that of the events.
+-- The same, if the history is that of the events.
 abbrev pub IsWalk : ℕ → Walk → List Event → List StampedCall → Type 0
 IsWalk forgotten walk events given = IsWalkBy forgotten walk (told events) events given
 
--- So it is, where these are the first events of the state.
+-- This holds if these are the first events of the state.
 abbrev pub IsWalkOf : ℕ → Walk → State → List StampedCall → Type 0
 IsWalkOf forgotten walk s given = IsWalk forgotten walk (take (forgotten + walk.passed) s.events) given
 
--- What comes of the next call of the transaction that committed last: it is given out, or there
--- is none.
+-- The next call of the transaction that committed last: it is given out, or there is none.
 abbrev pub IsTaken : ℕ → Walk → State → List StampedCall → Option StampedCall → Type 0
 IsTaken forgotten walk s given (Some call) = IsWalkOf forgotten walk s (given ++ call ∷ [])
 IsTaken forgotten walk s given None = IsWalkOf forgotten walk s given × (walk.closing.items ≡ [])
 
--- What comes of the next committed call: it is given out, or all were.
+-- The next committed call: it is given out, or all were.
 abbrev pub IsNext : ℕ → Walk → State → List StampedCall → Result (Option StampedCall) Memory → Type 0
 IsNext forgotten walk s given (Ok (Some call)) = IsWalkOf forgotten walk s (given ++ call ∷ [])
 IsNext forgotten walk s given (Ok None) = IsWalk forgotten walk s.events given × (given ≡ committed_in s.events)

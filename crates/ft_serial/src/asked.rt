@@ -8,14 +8,14 @@ use ft_calls::StampedCall;
 use ft_core::TxnId;
 use std::alloc::Global;
 
-/// A granted call, and who asked for it.
+/// A granted call, and the transaction that asked for it.
 #[derive(Drop)]
 pub(crate) struct Asked {
     pub(crate) txn: TxnId,
     pub(crate) call: StampedCall,
 }
 
-/// Puts a call behind those of a top-level transaction. Want of memory changes none.
+/// Puts a call after those of a top-level transaction. Lack of memory changes none.
 pub(crate) fn push_call(
     alloc: Global,
     table: &mut Table<Vec<Asked>>,

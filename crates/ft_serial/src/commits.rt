@@ -11,11 +11,11 @@ use std::alloc::Global;
 use std::marker::Model;
 use std::snapshot::Snapshot;
 
-/// What has been gone over of a core's events, and the committed calls that were given out of them.
+/// The core's events that have been gone over, and the committed calls that were given out of them.
 ///
-/// Clauses see these events and these calls; neither is kept, but the calls of the top-level
-/// transactions that have not ended are. So events that were gone over may be forgotten. A
-/// checkpoint forgets all, so behind it begin with a new one.
+/// Clauses see these events and these calls. Neither is kept, but the calls of the top-level
+/// transactions that have not ended are. Therefore, events that were gone over may be forgotten. A
+/// checkpoint forgets all, so begin with a new one after it.
 pub struct Commits {
     walk: Walk,
     // The core as it was when the events were last forgotten, and when it was last gone over. They
@@ -60,11 +60,11 @@ impl Commits {
         }
     }
 
-    /// The next committed call in the serial order, where there is one that was not given out.
+    /// Returns the next committed call in the serial order, if there is one that was not given out.
     ///
-    /// The core's events begin with those that were gone over; only those behind them are gone over
-    /// now. It is given the events but for the forgotten ones. Want of memory is the only refusal,
-    /// and loses nothing: the next try goes on.
+    /// The core's events begin with those that were gone over; only those after them are gone over
+    /// now. The argument is the events except the forgotten ones. Out of memory is the only
+    /// refusal, and loses nothing: the next try goes on.
     ///
     /// Takes the time of the events that are gone over, and for each call among them and each that
     /// is given out that of its asker's depth; and the memory of a copy of each call among them,
@@ -79,8 +79,8 @@ impl Commits {
         ensures err { OnErr result (self.new.given ≡ self.old.given) }
         ensures forgotten { self.new.forgotten ≡ self.old.forgotten }
 
-        // For who goes on with a later core: what was gone over and given out stands first in
-        // this one.
+        // For a caller that goes on with a later core: what was gone over and given out comes first
+        // in this one.
         ensures events { IsPrefix self.new.events core.now.state.events }
         ensures given { IsPrefix self.new.given (committed_calls core.now.state) }
         ensures kept { IsPrefix self.new.given (committed_in self.new.events) }

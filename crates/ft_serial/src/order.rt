@@ -18,11 +18,11 @@ use ft_core::{Core, Event, State, TxnId};
 use ft_record::Recorded;
 use std::alloc::Global;
 
-/// All standing calls in the serial order: those of the top-level transactions that have
-/// committed, in the order of the commits, and behind them all others; the calls of one
-/// transaction, and those others, in the order of their stamps.
+/// Returns all standing calls in the serial order: those of the top-level transactions that have
+/// committed, in the order of the commits, and after them all others; the calls of one transaction,
+/// and those others, in the order of their stamps.
 ///
-/// Want of memory is the only refusal. Takes the time of the history, and for each call that of its
+/// Out of memory is the only refusal. Takes the time of the history, and for each call that of its
 /// asker's depth.
 pub fn serial(core: &Recorded) -> Result<Vec<StampedCall>, Memory>
     ensures { IfOk result (λ calls. calls.items ≡ serial_calls core.now.state) }
@@ -53,7 +53,7 @@ fn list_open(core: &Recorded, walk: &Walk, calls: &mut Vec<StampedCall>) -> Resu
     Ok(())
 }
 
-/// Another one of the call that was granted at a place among the events, where one was.
+/// Returns another one of the call that was granted at a place among the events, if one was.
 fn copy_at(alloc: Global, events: &[Event], place: usize) -> Result<Option<StampedCall>, Memory>
     ensures { IfOk result (λ call. call ≡ call_of (slice_get events.now place)) }
 {
@@ -66,8 +66,8 @@ fn copy_at(alloc: Global, events: &[Event], place: usize) -> Result<Option<Stamp
     }))
 }
 
-/// Whether a call was granted at a place among the events that stands, and whose top-level
-/// transaction has not committed.
+/// Whether a standing call was granted at a place among the events, and its top-level transaction
+/// has not committed.
 fn is_open_at(core: &Recorded, walk: &Walk, place: usize) -> bool
     requires { IsReached core.now }
     ensures { result ≡ is_open_call (finite.contains_key walk.now.undone) (history core.now.state) (slice_get core.now.state.events place) }

@@ -14,7 +14,7 @@ use ft_core::laws::reached;
 use ft_core::{Core, Event, TxnId};
 use std::alloc::Global;
 
-/// What has been gone over of a core's events. It keeps what it has to know of them, so that they
+/// The core's events that have been gone over. It keeps what it needs to know of them, so that they
 /// may be forgotten.
 #[derive(Drop)]
 pub(crate) struct Walk {
@@ -44,8 +44,8 @@ impl Walk {
         }
     }
 
-    /// The next committed call in the serial order, where there is one that was not given out. The
-    /// events are those of the core but for the forgotten ones.
+    /// Returns the next committed call in the serial order, if there is one that was not given out.
+    /// The events are those of the core except the forgotten ones.
     pub(crate) fn next(
         &mut self,
         core: &Core,
@@ -66,7 +66,8 @@ impl Walk {
         }
     }
 
-    /// The next call of the transaction that committed last, where there is one. Takes no memory.
+    /// Returns the next call of the transaction that committed last, if there is one. Takes no
+    /// memory.
     fn take_closing(&mut self, core: &Core) -> Option<StampedCall>
         requires { IsReached core.now }
         ensures taken { (given : List CallValue) (n : ℕ) → IsWalkOf n self.old core.now.state given → IsTaken n self.new core.now.state given result }
@@ -83,7 +84,7 @@ impl Walk {
         None
     }
 
-    /// Goes over the next event. Want of memory changes nothing.
+    /// Goes over the next event. Lack of memory changes nothing.
     fn pass(&mut self, core: &Core, events: &[Event]) -> Result<(), Memory>
         requires reached { IsReached core.now }
         requires next { self.old.passed < length events.now }
@@ -126,8 +127,8 @@ impl Walk {
         Ok(())
     }
 
-    /// Whether a call that was granted stands: it is not undone, and nobody at or above who asked
-    /// for it is aborted.
+    /// Whether a call that was granted is standing: it is not undone, and neither its asker nor an
+    /// ancestor of that is aborted.
     pub(crate) fn stands(&self, core: &Core, stamp: u64, txn: TxnId) -> bool
         requires { IsReached core.now }
         ensures { result ≡ stands_in (finite.contains_key self.now.undone) (history core.now.state) stamp txn }

@@ -9,7 +9,7 @@ ghost use Rattle.ft_serial.specs.Walks.{is_aborted as is_aborted_fate};
 
 use ft_core::{Core, State, TxnId};
 
-/// Where the way up from a transaction leads.
+/// The place to which the way up from a transaction leads.
 #[derive(Clone, Copy)]
 pub(crate) struct Way {
     /// The top-level transaction at or above it.

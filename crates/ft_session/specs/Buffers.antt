@@ -1,4 +1,4 @@
--- What stands in a buffer into which bytes were copied.
+-- The contents of a buffer into which bytes were copied.
 use Rattle.std.specs.Prelude.{ℕ, List, ◌++◌, length, take, drop, Option, Some, None}
 
 -- as many of the bytes as have room, and the rest of the buffer as it was

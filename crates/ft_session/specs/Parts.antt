@@ -1,4 +1,4 @@
--- The parts of what the last request came to.
+-- The parts of the outcome of the last request.
 use Rattle.std.specs.Prelude.{ℕ, List, [], ◌∷◌, ◌++◌, Option, Some, None}
 use Rattle.ft_cells.specs.declared.node.Kind.{Kind}
 use Rattle.ft_posix.specs.declared.call.Reply.{Reply}
@@ -29,7 +29,7 @@ abbrev pub bytes_answered : Answer → Option (List ℕ)
 bytes_answered (Granted stamp reply) = bytes_of reply
 bytes_answered other = None
 
--- the transactions that an answer names as in the way
+-- the transactions that an answer names as blockers
 abbrev pub blockers_answered : Answer → List ℕ
 blockers_answered (Waits blockers) = blockers
 blockers_answered other = []

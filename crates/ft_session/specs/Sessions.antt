@@ -1,4 +1,4 @@
--- What a request leaves of a session.
+-- The session after a request.
 use Rattle.std.specs.Prelude.{◌≡◌, ◌⊎◌, ℕ, List, [], MatchBool}
 use Rattle.ft_core.specs.declared.request.Request.{Request}
 use Rattle.ft_core.specs.declared.request.Answer.{Answer}
@@ -14,8 +14,8 @@ use Rattle.ft_session.specs.Turns.{IsFairly}
 abbrev pub KeepsTurns : Session → Session → Type 0
 KeepsTurns old new = (new.is_fair ≡ old.is_fair) × (new.turns.items ≡ old.turns.items)
 
--- The core made one legal step for the request: by the fair rule where calls wait in turn, and else
--- by the rule of its state.
+-- The core made one legal step for the request: by the fair rule if calls wait in turn, and else by
+-- the rule of its state.
 abbrev pub HasStepped : Session → Request → Answer → Session → Type 0
 HasStepped old request answer new =
     MatchBool old.is_fair (IsFairly old.core.state old.turns.items request answer new.core.state new.turns.items) (IsStep exact_rule old.core.state request answer new.core.state × (new.turns.items ≡ old.turns.items))
@@ -25,12 +25,12 @@ HasStepped old request answer new =
 abbrev pub HasAnswered : Session → Request → Answer → Session → Type 0
 HasAnswered old request answer new = HasStepped old request answer new × (new.last ≡ last.Answer answer)
 
--- the state of the core, what the last request came to, and the turns are as they were
+-- the state of the core, the outcome of the last request, and the turns are as they were
 abbrev pub IsSame : Session → Session → Type 0
 IsSame old new = (new.core.state ≡ old.core.state) × (new.last ≡ old.last) × KeepsTurns old new
 
--- What a line leaves that was carried out: a request, as that; a report has its text kept, and
--- one that asks for nothing an empty text.
+-- The session after a line that was carried out: a request, as that; a report has its text kept,
+-- and a line that is not a valid request an empty text.
 abbrev pub IsCarriedOut : Session → Line → Session → Type 0
 IsCarriedOut old (line.Request request) new = (answer : Answer) × HasAnswered old request answer new
 IsCarriedOut old (line.Report report) new = (text : List ℕ) × IsReport old.core.state report text × (new.core.state ≡ old.core.state) × (new.last ≡ last.Text text) × KeepsTurns old new

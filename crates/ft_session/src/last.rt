@@ -1,4 +1,4 @@
-// What the last request came to, and its parts.
+// The outcome of the last request, and its parts.
 ghost use Rattle.std.specs.Prelude.{◌≡◌, length, option_map, IfOk, OnErr};
 ghost use Rattle.ft_session.specs.Buffers.{filled};
 ghost use Rattle.ft_session.specs.Parts.{names_in, blockers_in, bytes_in, reply_text};
@@ -12,17 +12,17 @@ use ft_replies::AnswerText;
 use ft_tree::Kind;
 use std::alloc::Global;
 
-/// What the last request came to.
+/// The outcome of the last request.
 #[derive(Debug, PartialEq, Eq, Drop)]
 pub enum Last {
     /// The core has answered so.
     Answer(Answer),
-    /// A line that asks for no step of the core has this text for its reply.
+    /// A line that requests no step of the core has this text for its reply.
     Text(Sequence<u8>),
 }
 
 impl Last {
-    /// The names that a list has answered; none where there is no such answer.
+    /// Returns the names that a list has returned; none if there is no such answer.
     pub fn names(&self) -> &[(Name, Kind)]
         ensures { result.now ≡ names_in self.now }
     {
@@ -37,7 +37,7 @@ impl Last {
         }
     }
 
-    /// The transactions for which a call waits; none where it does not.
+    /// Returns the transactions for which a call waits; none if it does not.
     pub fn blockers(&self) -> &[TxnId]
         ensures { result.now ≡ blockers_in self.now }
     {
@@ -47,7 +47,8 @@ impl Last {
         }
     }
 
-    /// The bytes that a read, or a read of a target, has answered, if there is such an answer.
+    /// Returns the bytes that a read, or a read of a target, has returned, if there is such an
+    /// answer.
     pub fn bytes(&self) -> Option<&[u8]>
         ensures { option_map (λ bytes. bytes.now) result ≡ bytes_in self.now }
     {
@@ -63,7 +64,7 @@ impl Last {
     }
 
     /// Copies the reply into a buffer as a script shows it, as much of it as has room: how many
-    /// bytes there are in all. Want of memory for its text leaves the buffer as it is.
+    /// bytes there are in all. Lack of memory for its text leaves the buffer as it is.
     pub fn copy_reply(&self, alloc: Global, buffer: &mut [u8]) -> Result<usize, Memory>
         ensures count { IfOk result (λ count. count ≡ length (reply_text self.now)) }
         ensures bytes { IfOk result (λ _. buffer.new ≡ filled (reply_text self.now) buffer.old) }

@@ -1,5 +1,5 @@
-//! What a caller and a core say to each other, one request at a time: the request as a value, or as
-//! a line of a script, and then the answer, part by part, or as text.
+//! The exchange of a caller and a core, one request at a time: the request as a value, or as a line
+//! of a script, and then the answer, part by part, or as text.
 #![tactic(auto)]
 
 mod copying;

@@ -21,7 +21,7 @@ use std::alloc::Global;
 pub enum LineFault {
     /// There was no memory left.
     Memory,
-    /// It asks for nothing that there is.
+    /// It is not a valid request.
     Bad,
 }
 
@@ -43,13 +43,14 @@ pub struct Session {
     pub last: Last,
     /// Whether a call waits behind older asks that conflict with it.
     pub is_fair: bool,
-    /// Who has asked for a call and had to wait, in their order, with some who wait no more.
+    /// The transactions that asked for a call and had to wait, in their order, and some that no
+    /// longer wait.
     pub turns: Vec<TxnId>,
 }
 
 impl Session {
-    /// A session with a core, of which nothing has been asked yet, and in which calls wait behind
-    /// older asks, or do not.
+    /// Returns a session with a core, of which nothing has been requested yet, and in which calls
+    /// wait behind older asks, or do not.
     pub fn of(alloc: Global, core: Core, is_fair: bool) -> Session
         ensures core { result.core ≡ core }
         ensures last { result.last ≡ Last.Text [] }
@@ -64,8 +65,8 @@ impl Session {
         }
     }
 
-    /// Carries out a request. What a commit or an abort has let go is swept, where it is not
-    /// refused.
+    /// Carries out a request. After a commit or an abort that is not refused, what it has released
+    /// is swept.
     pub fn ask(&mut self, request: Request)
         ensures { (answer : AnswerOf) × HasAnswered self.old request answer self.new }
     {
@@ -73,7 +74,7 @@ impl Session {
         self.last = Last::Answer(answered);
     }
 
-    /// Carries out a request, by the turns of calls where they wait in turn.
+    /// Carries out a request, by the turns of calls if they wait in turn.
     fn carry_out(&mut self, request: Request) -> Answer
         ensures stepped { HasStepped self.old request result self.new }
         ensures last { self.new.last ≡ self.old.last }
@@ -84,7 +85,7 @@ impl Session {
         carry_out(&mut self.core, request)
     }
 
-    /// Makes the tree as it stands the base, as that request does. Takes no memory.
+    /// Makes the present tree the base, as that request does. Takes no memory.
     pub fn checkpoint(&mut self)
         ensures asked { (answer : AnswerOf) × HasAnswered self.old Checkpoint answer self.new }
         ensures live { (self.new.last ≡ Last.Answer Cleared) ⊎ (self.new.last ≡ Last.Answer (Refused LiveFault)) }
@@ -93,7 +94,7 @@ impl Session {
         self.last = Last::Answer(answer);
     }
 
-    /// Answers a call in a transaction that is not made, for want of memory. It is refused as the
+    /// Answers a call in a transaction that is not made, for lack of memory. It is refused as the
     /// core refuses each call there, and else Memory.
     pub fn refuse_ask(&mut self, txn: TxnId)
         ensures { (call : CallOf) → (answer : AnswerOf) × HasAnswered self.old (Ask txn call) answer self.new }
@@ -103,8 +104,8 @@ impl Session {
 
     /// Carries out one line of a script, without its line feed.
     ///
-    /// Refuses a line that asks for nothing that there is. Else it fails only for want of memory:
-    /// for the words of the line, or for the text of a report.
+    /// Refuses a line that is not a valid request. Else it fails only for lack of memory: for the
+    /// words of the line, or for the text of a report.
     pub fn request(&mut self, alloc: Global, line: &[u8]) -> Result<(), LineFault>
         ensures ok { OnOk result (IsCarriedOut self.old (meaning_of line.now) self.new) }
         ensures bad { IfErr result (λ fault. fault ≡ LineFault.Bad → meaning_of line.now ≡ BadLine) }
@@ -132,7 +133,7 @@ impl Session {
     }
 }
 
-// Makes the tree of a core as it stands the base.
+// Makes the present tree of a core the base.
 fn cleared(core: &mut Core) -> Answer
     ensures step { IsStep exact_rule core.old.state Checkpoint result core.new.state }
     ensures live { (result ≡ Cleared) ⊎ (result ≡ Refused LiveFault) }
@@ -143,7 +144,7 @@ fn cleared(core: &mut Core) -> Answer
     }
 }
 
-// What a call in a transaction is refused for which there is no memory.
+// The refusal of a call in a transaction for which there is no memory.
 fn refusal(core: &Core, txn: TxnId) -> Fault
     ensures { (call : CallOf) → IsStep exact_rule core.now.state (Ask txn call) (Refused result) core.now.state }
 {

@@ -1,4 +1,4 @@
-// In which turn calls are asked for, where a session is fair.
+// The turns of calls in a fair session.
 ghost use Rattle.std.specs.Prelude.{◌≡◌, ◌↔◌, ◌==◌, ◌&&◌, ◌||◌, true, not, Some, IfOk, is_some};
 ghost use Rattle.std.specs.List.{list_any};
 ghost use Rattle.std.specs.FinMap as finite;
@@ -14,8 +14,8 @@ use ft_replies::carry_out;
 use ft_waits::ahead_of;
 
 impl Session {
-    /// Those that are in the way of the call that a transaction waits for now, in rising order; none
-    /// where it waits for no call.
+    /// Returns the blockers of the call that a transaction waits for now, in rising order; none if
+    /// it waits for no call.
     pub fn blockers(&self, txn: TxnId) -> Result<Vec<TxnId>, Memory>
         ensures { IfOk result (λ blockers. AreInTheWay self.now.is_fair self.now.core.state self.now.turns.items txn blockers.items) }
     {
@@ -28,7 +28,7 @@ impl Session {
         Ok(blockers)
     }
 
-    /// Carries out a request where calls wait in turn.
+    /// Carries out a request, if calls wait in turn.
     pub(crate) fn carry_out_fairly(&mut self, request: Request) -> Answer
         ensures fairly { IsFairly self.old.core.state self.old.turns.items request result self.new.core.state self.new.turns.items }
         ensures fair { self.new.is_fair ≡ self.old.is_fair }
@@ -47,7 +47,7 @@ impl Session {
         }
     }
 
-    /// Asks for a call in the turn of its transaction.
+    /// Requests a call in the turn of its transaction.
     fn ask_in_turn(&mut self, txn: TxnId, call: Call) -> Result<Outcome, Fault>
         ensures turn { IsInTurn self.old.core.state self.old.turns.items txn (λ keeps. (keeps ≡ true) ↔ (finite.get self.old.core.state.asks txn ≡ Some call)) (Ask txn call) (answer_with outcome_answer result) self.new.core.state self.new.turns.items }
         ensures fair { self.new.is_fair ≡ self.old.is_fair }
@@ -62,7 +62,7 @@ impl Session {
         outcome
     }
 
-    /// Asks again for the call that a transaction waits for, in its turn.
+    /// Requests again, in its turn, the call that a transaction waits for.
     fn retry_in_turn(&mut self, txn: TxnId) -> Result<Outcome, Fault>
         ensures turn { IsInTurn self.old.core.state self.old.turns.items txn (λ keeps. keeps ≡ true) (Retry txn) (answer_with outcome_answer result) self.new.core.state self.new.turns.items }
         ensures fair { self.new.is_fair ≡ self.old.is_fair }
@@ -76,7 +76,7 @@ impl Session {
         outcome
     }
 
-    /// Takes these turns where a call has to wait.
+    /// Takes these turns if a call has to wait.
     fn take_turns(&mut self, outcome: &Result<Outcome, Fault>, turns: Vec<TxnId>)
         ensures others { self.new ≡ record self.old { turns = self.new.turns } }
         ensures turns { self.new.turns.items ≡ turns_after (answer_with outcome_answer outcome.now) self.old.turns.items turns.items }
@@ -88,7 +88,8 @@ impl Session {
         }
     }
 
-    /// The turns when a transaction asks for a call, and keeps its own or gets the last one.
+    /// Returns the turns when a transaction asks for a call, and keeps its own or gets the last
+    /// one.
     fn turns_for(&self, txn: TxnId, keeps: bool) -> Result<Vec<TxnId>, Memory>
         ensures { IfOk result (λ turns. turns.items ≡ turns_for self.now.core.state self.now.turns.items txn keeps) }
     {
@@ -100,7 +101,7 @@ impl Session {
         Ok(turns)
     }
 
-    /// Those of the turns that are kept when a transaction asks for a call.
+    /// Returns the turns that are kept when a transaction asks for a call.
     fn kept_turns(&self, txn: TxnId, keeps: bool) -> Result<Vec<TxnId>, Memory>
         ensures { IfOk result (λ turns. turns.items ≡ kept_turns self.now.core.state self.now.turns.items txn keeps) }
     {
@@ -128,7 +129,7 @@ fn is_among(list: &[TxnId], txn: TxnId) -> bool
     list.iter().any(|other| *other == txn)
 }
 
-/// What became of a call, as an answer.
+/// Returns the outcome of a call as an answer.
 fn answer_of(outcome: Result<Outcome, Fault>) -> Answer
     ensures { result ≡ answer_with outcome_answer outcome }
 {

@@ -43,8 +43,8 @@ abbrev pub IsRefused : State → Cause → Type 0
 IsRefused s (FaultCause fault) = (fault ≡ Live) × SomeIsLive s
 IsRefused s (ViewCause fault) = (fault ≡ Memory) × NoneIsLive s
 
--- Why views get no name: there was no memory, or no place for the reader. Nothing of the core
--- stands in the way any more.
+-- The reasons why views get no name: there was no memory, or no place for the reader. Nothing of
+-- the core prevents it any more.
 abbrev pub IsNameless : Cause → Type 0
 IsNameless (FaultCause fault) = ⊥
 IsNameless (ViewCause fault) = Unit {0}

@@ -1,4 +1,4 @@
--- What was shared, as a name in the proofs tells it.
+-- The shared state, as a name in the proofs gives it.
 use Rattle.std.specs.Prelude.{◌≡◌, ◌⊎◌, Bool, false, List, []}
 use Rattle.logbook.specs.Pages.{Book}
 use Rattle.ft_posix.specs.declared.stamped.StampedCall.{StampedCall}
@@ -27,7 +27,7 @@ new_core = without_views (first_state Profile default_limits)
 abbrev pub views_of : Origin → Views
 views_of o = record { book = o.book; base = o.from.base.tree }
 
--- What readers are shown: nothing yet; or the committed calls of some core that went on from this
--- state: those of whole top-level transactions, in the order of their commits.
+-- The list that readers are shown: nothing yet; or the committed calls of some core that went on
+-- from this state: those of whole top-level transactions, in the order of their commits.
 abbrev pub IsWhole : State → List StampedCall → Type 0
 IsWhole from calls = (calls ≡ []) ⊎ OfCoreFrom from (λ s. calls ≡ committed_calls s)

@@ -1,4 +1,4 @@
--- What is published, and what the writer of the views was given.
+-- The published list, and the calls that the writer of the views was given.
 use Rattle.std.specs.Prelude.{◌≡◌, ◌⊎◌, ℕ, Bool, true, false, List, [], ◌∷◌, ◌++◌, drop, fold, refl, Option, Some, None, Result, OnOk, OnErr}
 use mathlib.Core.List.{IsPrefix}
 use Rattle.std.specs.Coded.{Coded, code_by, coded×, coded_ℕ, coded_list, coded_option}
@@ -33,7 +33,7 @@ pub record Publishing : Type 0 where
   pub held : Option StampedCall
   pub commits : GoneOver
 
--- the held call as a list, empty where there is none
+-- the held call as a list, empty if there is none
 abbrev pub listed : Option StampedCall → Calls
 listed None = []
 listed (Some call) = call ∷ []
@@ -46,7 +46,7 @@ step v p = advanced v p.call p.front
 abbrev pub ahead : Shown → ℕ → List Published → Shown
 ahead shown behind log = fold step shown (drop behind log)
 
--- What is pending makes a view of these whose list is whole, so that it may be shown.
+-- The pending calls make a view of these whose list is whole, so that it may be shown.
 pub record IsPublishable (opened : Views) (shows : Calls → Type 0) (shown : Shown) (behind : ℕ) (log : List Published) : Type 0 where
   pub next : IsViewOf opened shows (ahead shown behind log)
 
@@ -55,9 +55,9 @@ pub record IsPublished (shown : Shown) (behind : ℕ) (log : List Published) (sh
   pub ok : OnOk result ((shown' ≡ ahead shown behind log) × (drop behind' log' ≡ []))
   pub err : OnErr result ((shown' ≡ shown) × (drop behind' log' ≡ drop behind log))
 
--- What is shown is a view of these. With what is pending it is a replay, of the list that the writer
--- was given; the book has the same list, or the held call too; and all that was taken from the core
--- was given or is held, and has committed there.
+-- The shown list is a view of these. With the pending calls it is a replay, of the list that the
+-- writer was given; the book has the same list, or the held call too; and all that was taken from
+-- the core was given or is held, and has committed there.
 pub record IsPublishing (opened : Views) (shows : Calls → Type 0) (book : Book) (shown : Shown) (behind : ℕ) (log : List Published) (fed told : Fronted) (held : Option StampedCall) (commits : GoneOver) : Type 0 where
   pub of_book : book ≡ opened.book
   pub fed_of : fed.book ≡ opened.book
@@ -70,14 +70,14 @@ pub record IsPublishing (opened : Views) (shows : Calls → Type 0) (book : Book
   pub given : commits.given ≡ fed.calls ++ listed held
   pub stands : IsPrefix commits.given (committed_in commits.events)
 
--- what stands behind the lock: a core, how many events it has forgotten where it keeps any, and the
--- list that is published where it has views
+-- behind the lock: a core, how many events it has forgotten if it keeps any, and the list that is
+-- published if it has views
 pub record Backed : Type 0 where
   pub core : StoredState
   pub forgotten : Option ℕ
   pub published : Option Calls
 
--- the list that readers see, where there are views
+-- the list that readers see, if there are views
 abbrev pub published_in : Option Publishing → Option Calls
 published_in None = None
 published_in (Some p) = Some p.published
@@ -93,12 +93,12 @@ abbrev pub HasPublisher : Bool → State → Option ℕ → Option Publishing �
 HasPublisher shown core forgotten None = shown ≡ false
 HasPublisher shown core forgotten (Some p) = (shown ≡ true) × IsPublisherOf core forgotten p
 
--- What stands behind the lock goes on from what was shared.
+-- The value behind the lock goes on from what was shared.
 pub record IsBehind (origin : Origin) (core : State) (forgotten : Option ℕ) (publisher : Option Publishing) : Type 0 where
   pub goes_on : GoesOn origin.from core
   pub views : HasPublisher origin.shown core forgotten publisher
 
--- why nothing was published: NoViews where there are no views, else Memory
+-- why nothing was published: NoViews if there are no views, else Memory
 abbrev pub fault_of_publish : Bool → Fault
 fault_of_publish false = NoViews
 fault_of_publish true = MemoryFault
@@ -111,6 +111,6 @@ coded_gone_over = code_by (List Event × (ℕ × Calls)) (coded× (coded_list ev
 abbrev pub coded_publishing : Coded Publishing
 coded_publishing = code_by (Calls × (Calls × (Calls × (Option StampedCall × GoneOver)))) (coded× coded_calls (coded× coded_calls (coded× coded_calls (coded× (coded_option stamped.the_row.coded) coded_gone_over)))) (λ l. (l.published, (l.fed, (l.told, (l.held, l.commits))))) (λ p. record { published = p.0; fed = p.1.0; told = p.1.1.0; held = p.1.1.1.0; commits = p.1.1.1.1 }) (λ _. refl)
 
--- how what stands behind the lock is coded
+-- the code of the value behind the lock
 abbrev pub coded_backed : Coded Backed
 coded_backed = code_by (StoredState × (Option ℕ × Option Calls)) (coded× coded_stored (coded× (coded_option coded_ℕ) (coded_option coded_calls))) (λ b. (b.core, (b.forgotten, b.published))) (λ p. record { core = p.0; forgotten = p.1.0; published = p.1.1 }) (λ _. refl)

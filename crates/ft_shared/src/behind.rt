@@ -1,4 +1,4 @@
-// What stands behind the lock.
+// The value behind the lock.
 ghost use Rattle.std.specs.Prelude.{◌≡◌, true, length, cond, is_some, Some, None, IfSome, IfOk, IfErr, IsTrue, OnOk, OnErr};
 ghost use mathlib.Core.List.{IsPrefix};
 ghost use Rattle.ft_core.specs.declared.request.Request.TheVariants.{Begin, Sub, Ask, Retry, Drop as DropAsk, Commit};
@@ -21,7 +21,7 @@ use ft_view::Receipt;
 use std::marker::Model;
 use std::sync::Wait;
 
-/// A core, and what publishes its committed calls where it has views. Clauses see the core's state,
+/// A core, and what publishes its committed calls if it has views. Clauses see the core's state,
 /// and the list that is published.
 ///
 /// Whatever is requested, the core goes on from the state that was shared, and what is published is
@@ -77,10 +77,10 @@ impl<J: Sharing, C: Shareable> Behind<J, C> {
         self.core.core()
     }
 
-    /// What is true whenever the lock is got: the history of the core is legal, from a sound base,
-    /// and goes on from what had happened when it was shared; it has views just where it was shared
-    /// with views; and what is published is a beginning of the committed part of its serial list.
-    /// It does nothing.
+    /// Its contract is what is true whenever the lock is got: the history of the core is legal,
+    /// from a sound base, and goes on from what had happened when it was shared; it has views
+    /// exactly if it was shared with views; and what is published is a beginning of the committed
+    /// part of its serial list. It does nothing.
     pub fn stands(&self)
         ensures reached { IsReached self.now.core }
         ensures goes_on { GoesOn J.origin.from self.now.core.state }
@@ -141,7 +141,7 @@ impl<J: Sharing, C: Shareable> Behind<J, C> {
         self.core.drop_ask(txn)
     }
 
-    /// Commits a transaction, as `Core::commit` does, and sweeps what it let go.
+    /// Commits a transaction, as `Core::commit` does, and sweeps what it released.
     pub fn commit(&mut self, txn: TxnId) -> Result<(), Fault>
         ensures step { IsStep exact_rule self.old.core.state (Commit txn) (answer_with (λ done. Committed) result) self.new.core.state }
         ensures published { self.new.published ≡ self.old.published }
@@ -151,7 +151,7 @@ impl<J: Sharing, C: Shareable> Behind<J, C> {
         Ok(())
     }
 
-    /// Aborts a transaction, as `Core::abort` does, and sweeps what it let go.
+    /// Aborts a transaction, as `Core::abort` does, and sweeps what it released.
     pub fn abort(&mut self, txn: TxnId) -> Result<u64, Fault>
         ensures step { IsAborted self.old.core.state txn (answer_with Aborted result) self.new.core.state }
         ensures published { self.new.published ≡ self.old.published }
@@ -169,11 +169,10 @@ impl<J: Sharing, C: Shareable> Behind<J, C> {
         self.core.undo_call(txn)
     }
 
-    /// Publishes the whole committed part of the core, and answers how many calls that has, with
+    /// Publishes the whole committed part of the core, and returns how many calls that has, with
     /// the receipt of it.
     ///
-    /// Refuses NoViews where the core has none, and then want of memory; then readers see what they
-    /// saw.
+    /// Refuses NoViews if the core has none, and then Memory; then readers see what they saw.
     pub fn publish<R: Wait>(&mut self, rt: &R) -> Result<(u64, Receipt<ViewsOf<J>>), Fault>
         ensures core { self.new.core ≡ self.old.core }
         ensures shown { OnOk result (IsTrue J.origin.shown) }
@@ -183,7 +182,7 @@ impl<J: Sharing, C: Shareable> Behind<J, C> {
         ensures same { OnErr result (self.new.published ≡ self.old.published) }
         ensures fault { IfErr result (λ fault. fault ≡ fault_of_publish J.origin.shown) }
 
-        // What has happened is forgotten then, if the core ever forgets.
+        // The events are forgotten then, if the core ever forgets.
         ensures forgotten { OnOk result (self.new.forgotten ≡ cond C.forgets (Some (length self.old.core.state.events)) self.old.forgotten) }
     {
         let Some(publisher) = &mut self.publisher else {

@@ -1,3 +1,3 @@
-//! What stands behind the lock of a `Shared`, for those who cite it.
+//! Laws of the core behind the lock of a `Shared`, to be cited.
 
 pub use crate::behind::Behind;

@@ -1,5 +1,5 @@
-//! Transactions that threads share: a core behind a lock, with views of what has committed where
-//! they are wanted, and the trait of what job threads ask of it.
+//! Transactions that threads share: a core behind a lock, with views of what has committed if they
+//! are wanted, and the trait of what job threads ask of it.
 #![tactic(auto)]
 
 mod behind;

@@ -1,4 +1,4 @@
-// What job threads ask of the transactions that they share.
+// The requests of job threads to the transactions that they share.
 ghost use Rattle.std.specs.Prelude.{◌≤◌};
 ghost use Rattle.ft_core.specs.States.{State};
 
@@ -10,12 +10,12 @@ use ft_record::Recorded;
 use std::sync::Wait;
 use std::time::Clock;
 
-/// What job threads ask of the transactions that they share.
+/// The requests of job threads to the transactions that they share.
 ///
-/// No answer is promised to be true: who takes a manager has to find out for itself, when it has
-/// the core back. Of that core a manager may promise something (`hands_back`).
+/// No answer is promised to be true: the caller that takes a manager must find out for itself, when
+/// it has the core back. A manager may promise something of that core (`hands_back`).
 pub trait Manager: Sync {
-    // What holds of the state of the core that is handed back. By default nothing is said.
+    // A fact of the state of the core that is handed back. By default nothing is said.
     ghost hands_back: { State → Type 0 } = { λ _. Unit {0} };
 
     /// Begins a top-level transaction.
@@ -37,8 +37,8 @@ pub trait Manager: Sync {
     /// Commits a transaction.
     fn commit<R: Wait>(&self, rt: &R, txn: TxnId) -> Result<(), Fault>;
 
-    /// Aborts a transaction with all that is live below it, and answers how many standing calls it
-    /// takes away.
+    /// Aborts a transaction with all that is live below it, and returns how many standing calls it
+    /// undoes.
     fn abort<R: Wait>(&self, rt: &R, txn: TxnId) -> Result<u64, Fault>;
 
     /// Ends the manager, and gives the core back.

@@ -40,7 +40,8 @@ impl<C: Shareable> Model for Opened<C> {
     ghost invariant = { λ a. (C.forgotten a.core ≡ Some 0) × IsOpened (C.stored a.core).state a.blank.book a.blank.nothing a.blank.first a.blank.second };
 }
 
-/// Why a core has no views: it can't be shared, or want of memory or of a place for the reader.
+/// The reason why a core has no views: it can't be shared, or there was not enough memory or no
+/// place for the reader.
 #[derive(Debug, PartialEq, Eq, Clone, Copy)]
 pub enum Cause {
     Fault(Fault),
@@ -57,7 +58,7 @@ pub struct ViewsRefused<C = Recorded> {
 /// Opens views of a core. They start from its base, and nothing is published, whatever has
 /// committed.
 ///
-/// Refuses Live where a transaction is live, and then want of memory, and hands the core back.
+/// Refuses Live if a transaction is live, and then Memory, and hands the core back.
 pub fn with_views<C: Shareable>(core: C) -> Result<Opened<C>, ViewsRefused<C>>
     requires kept { C.forgotten core ≡ Some 0 }
     requires base { C.knows_base core }
@@ -96,8 +97,8 @@ fn blank(alloc: Global, base: &Tree) -> Result<Blank, Memory>
 impl<C: Shareable> Opened<C> {
     /// Names the views, and makes of them what threads share and a reader that has seen nothing.
     ///
-    /// The name, `J`, is in the proofs alone: it ties readers and receipts to these views. Refuses
-    /// want of memory and then of a place for the reader, and hands the core back.
+    /// The name, `J`, is only in the proofs: it ties readers and receipts to these views. Refuses
+    /// Memory and then NoReader, if there is no place for the reader, and hands the core back.
     pub fn named<J: Sharing, R: Wait>(
         self,
         rt: &R,

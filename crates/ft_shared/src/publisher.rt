@@ -1,4 +1,4 @@
-// What publishes the committed calls of a core.
+// The publisher of the committed calls of a core.
 ghost use Rattle.std.specs.Prelude.{◌≡◌, ◌++◌, ◌∷◌, [], drop, length, None, MatchBool, IfOk, IsSome, OnOk, OnErr};
 ghost use mathlib.Core.List.{IsPrefix};
 ghost use Rattle.ft_serial.specs.Serials.{committed_calls, committed_in};
@@ -18,7 +18,7 @@ use std::sync::Wait;
 /// The most readers of a core's views at one time.
 pub const MOST_READERS: usize = 64;
 
-/// What publishes the committed calls of a core. It is not `Drop`: end it by `end`.
+/// The publisher of the committed calls of a core. It is not `Drop`: end it by `end`.
 pub(crate) struct Publisher<J: Naming> {
     book: Book,
     writer: Writing<J>,
@@ -26,7 +26,7 @@ pub(crate) struct Publisher<J: Naming> {
     commits: Commits,
     // The list that the writer was given.
     fed: Front,
-    // The list that the book has: the same, or one call more, where there was no memory to give it.
+    // The list that the book has: the same, or one call more, if there was no memory to give it.
     told: Front,
     // A call that was taken from the core, and not yet given to the writer.
     held: Option<StampedCall>,
@@ -44,8 +44,8 @@ impl<J: Naming> Model for Publisher<J> {
     ghost invariant = { λ a. IsPublishing J.opened J.shows a.book a.writer.desk.shown.value a.writer.behind a.writer.log.items a.fed a.told a.held a.commits };
 }
 
-/// What a publisher is made of: a book, the front that has seen nothing of it, and two equal views
-/// of the base.
+/// The parts of a publisher: a book, the front that has seen nothing of it, and two equal views of
+/// the base.
 #[derive(Drop)]
 pub(crate) struct Blank {
     pub(crate) book: Book,
@@ -85,7 +85,7 @@ impl<J: Naming> Publisher<J> {
         }
     }
 
-    /// What looks at the views. Refuses NoReader.
+    /// Returns what looks at the views. Refuses NoReader.
     pub(crate) fn reader(&self) -> Result<Inner<J>, ViewFault> {
         self.writer
             .factory()
@@ -93,15 +93,16 @@ impl<J: Naming> Publisher<J> {
             .map_err(|_| ViewFault::NoReader)
     }
 
-    /// What is published had committed when the core was last gone over. It does nothing.
+    /// Its contract: the published calls had committed when the core was last gone over. It does
+    /// nothing.
     pub(crate) fn stands(&self)
         ensures { IsPrefix self.now.published (committed_in self.now.commits.events) }
     {
         let _ = &self.writer;
     }
 
-    /// Publishes the whole committed part of the core, and answers how many calls that has, with
-    /// the receipt of it. After want of memory readers see what they saw.
+    /// Publishes the whole committed part of the core, and returns how many calls that has, with
+    /// the receipt of it. After lack of memory readers see what they saw.
     pub(crate) fn publish<R: Wait>(
         &mut self,
         rt: &R,
@@ -151,7 +152,7 @@ impl<J: Naming> Publisher<J> {
         Ok(())
     }
 
-    /// Takes the next of the committed calls from the core, and answers whether there is one.
+    /// Takes the next of the committed calls from the core, and returns whether there is one.
     fn take_next(&mut self, core: &Core, events: &[Event]) -> Result<bool, Memory>
         requires passed { IsPrefix self.old.commits.events core.now.state.events }
         requires events { events.now ≡ drop self.old.commits.forgotten core.now.state.events }
@@ -170,7 +171,7 @@ impl<J: Naming> Publisher<J> {
 }
 
 impl<J: Naming> Publisher<J> {
-    /// Gives the writer the call that is held, where one is. After want of memory it is held still.
+    /// Gives the writer the call that is held, if one is. After lack of memory it is held still.
     fn give(&mut self) -> Result<(), Memory>
         ensures others { (self.new.published ≡ self.old.published) × (self.new.commits ≡ self.old.commits) }
         ensures given { OnOk result (self.new.held ≡ None) }
@@ -179,7 +180,7 @@ impl<J: Naming> Publisher<J> {
         self.append()
     }
 
-    /// Tells the book the call that is held, where it has not been told of it.
+    /// Gives the book the call that is held, if the book has not got it.
     fn tell(&mut self) -> Result<(), Memory>
         ensures others { (self.new.published ≡ self.old.published) × (self.new.fed ≡ self.old.fed) × (self.new.held ≡ self.old.held) × (self.new.commits ≡ self.old.commits) }
         ensures told { OnOk result (self.new.told ≡ self.old.fed ++ listed self.old.held) }
@@ -190,7 +191,7 @@ impl<J: Naming> Publisher<J> {
         if self.told.len() > self.fed.len() {
             return Ok(());
         }
-        // The book has gone on without this publisher only where another one had it, and none has.
+        // The book has gone on without this publisher only if another one had it, and none has.
         let Some(told) = self.told.with(&self.book, call) else {
             return Err(Memory);
         };
@@ -198,7 +199,7 @@ impl<J: Naming> Publisher<J> {
         Ok(())
     }
 
-    /// Gives the writer the call that is held, of which the book was told.
+    /// Gives the writer the call that is held, which the book has got.
     fn append(&mut self) -> Result<(), Memory>
         requires { self.old.told ≡ self.old.fed ++ listed self.old.held }
         ensures others { (self.new.published ≡ self.old.published) × (self.new.commits ≡ self.old.commits) }
@@ -221,8 +222,8 @@ impl<J: Naming> Publisher<J> {
         }
     }
 
-    /// Shows readers what the writer was given, which is whole. It waits for those that read the
-    /// other copy.
+    /// Shows readers the calls that the writer was given, which are whole transactions. It waits
+    /// for the readers of the other copy.
     fn show<R: Wait>(&mut self, rt: &R) -> Result<(), Memory>
         requires { J.shows self.old.fed }
         ensures others { (self.new.fed ≡ self.old.fed) × (self.new.commits ≡ self.old.commits) }

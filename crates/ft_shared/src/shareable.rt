@@ -1,4 +1,4 @@
-// What threads may share.
+// Cores that threads may share.
 ghost use Rattle.std.specs.Prelude.{◌≡◌, ◌≤◌, ◌<◌, ◌+◌, ◌-◌, ◌^◌, ℕ, Bool, true, false, Option, Some, None, cond, length};
 ghost use Rattle.ft_tree.specs.Tidy.{tidy};
 ghost use Rattle.ft_forest.specs.declared.TheConstants.{LAST_NUMBER as last_number};
@@ -16,13 +16,13 @@ use ft_core::{Core, Event, Fault, Outcome, TxnId};
 use ft_record::{Recent, Recorded};
 use ft_tree::Tree;
 
-/// What threads may share: a core, with what it keeps of what has happened. A `Core` keeps nothing,
+/// A core that threads may share, with what it keeps of what has happened. A `Core` keeps nothing,
 /// a `Recent` what came since it last forgot, a `Recorded` all.
 pub trait Shareable {
     // Its core.
     ghost stored: { Self → StoredState };
 
-    // How many events since its base it has forgotten; none where it keeps no events.
+    // How many events since its base it has forgotten; none if it keeps no events.
     ghost forgotten: { Self → Option ℕ };
 
     // Whether it forgets events when it is asked to.
@@ -35,7 +35,7 @@ pub trait Shareable {
     fn core(&self) -> &Core
         ensures { result.now ≡ stored self.now };
 
-    /// What it keeps of what has happened, in order: what came since it last forgot.
+    /// Returns the events that it keeps, in order: those since it last forgot.
     fn events(&self) -> &[Event]
         ensures { result.now ≡ events_kept (forgotten self.now) (stored self.now).state };
 
@@ -47,7 +47,7 @@ pub trait Shareable {
         ensures last { (stored self.now).state.base.last_stamp ≤ last_number }
         ensures bare { HasNoUselessPlace result.now };
 
-    /// Forgets what has happened, if it ever forgets, and answers whether it does. Takes no memory.
+    /// Forgets what has happened, if it ever forgets, and returns whether it does. Takes no memory.
     fn forget(&mut self) -> bool
         ensures core { stored self.new ≡ stored self.old }
         ensures told { result ≡ forgets }

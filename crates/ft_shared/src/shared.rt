@@ -35,12 +35,12 @@ pub const MOST_PAUSE: u64 = 5;
 /// Transactions that threads share: a core behind a lock.
 ///
 /// Each call makes one call of the core, or reads it, in one holding of the lock; a commit or an
-/// abort that is not refused also sweeps, in the same holding, what it has let go. What stands
-/// behind the lock is a `Core`: whenever the lock is got, its history is a legal one from a sound
-/// base, which goes on from the state that was shared (`J` tells which one that was), and its tree
-/// is what a plain tree holds after the standing calls alone. How far it had come, no clause can
-/// say: each says that the answer is a legal one of some core that goes on from there
-/// (`InCoreFrom`). No clause says that a call returns.
+/// abort that is not refused also sweeps, in the same holding, what it has released. A `Core` is
+/// behind the lock: whenever the lock is got, its history is a legal one from a sound base, which
+/// goes on from the state that was shared (`J` names that state), and its tree is what a plain tree
+/// holds after only the standing calls. No clause can say how far it had come: each says that the
+/// answer is a legal one of some core that goes on from there (`InCoreFrom`). No clause states that
+/// a call returns.
 ///
 /// There is no checkpoint here: once as many transactions were begun, or calls granted, since the
 /// base as the limits of the core allow, it is `Full` for good, until `into_core` gives it back.
@@ -62,7 +62,7 @@ pub struct Refused<C = Recorded> {
 impl<J: Sharing, C: Shareable> Shared<J, C> {
     /// Puts a core behind a lock. Takes no memory.
     ///
-    /// Refuses Live where a transaction is live, and hands the core back.
+    /// Refuses Live if a transaction is live, and hands the core back.
     pub fn new(core: C) -> Result<Shared<J, C>, Refused<C>>
         requires { without_views (C.stored core).state ≡ J.origin }
         ensures { MatchResult result (λ shared. NoneIsLive (C.stored core).state) (λ refused. (refused.core ≡ core) × (refused.fault ≡ LiveFault) × SomeIsLive (C.stored core).state) }
@@ -76,7 +76,7 @@ impl<J: Sharing, C: Shareable> Shared<J, C> {
         Ok(Shared::over(Behind::alone(core)))
     }
 
-    /// Puts a core, with its views where it has any, behind a lock.
+    /// Puts a core behind a lock, with its views if it has any.
     pub(crate) fn over(behind: Behind<J, C>) -> Shared<J, C> {
         Shared {
             alloc: behind.core().alloc(),
@@ -87,7 +87,7 @@ impl<J: Sharing, C: Shareable> Shared<J, C> {
 
     /// Begins a top-level transaction.
     ///
-    /// Refuses Full where there are as many transactions as there may be.
+    /// Refuses Full if there are as many transactions as there may be.
     pub fn begin<R: Wait>(&self, rt: &R) -> Result<TxnId, Fault>
         ensures some_core { InCoreFrom J.origin.from (λ old new. IsStep exact_rule old Begin (answer_with Txn result) new) }
     {
@@ -99,8 +99,7 @@ impl<J: Sharing, C: Shareable> Shared<J, C> {
 
     /// Begins a subtransaction.
     ///
-    /// Refuses NoTxn, Ended, Deep where the parent stands as deep as one may, and Full, in this
-    /// order.
+    /// Refuses NoTxn, Ended, Deep if the parent is as deep as one may be, and Full, in this order.
     pub fn sub<R: Wait>(&self, rt: &R, parent: TxnId) -> Result<TxnId, Fault>
         ensures some_core { InCoreFrom J.origin.from (λ old new. IsStep exact_rule old (Sub parent) (answer_with Txn result) new) }
     {
@@ -110,9 +109,9 @@ impl<J: Sharing, C: Shareable> Shared<J, C> {
         answer
     }
 
-    /// Makes a call in a transaction, or answers which transactions it waits for.
+    /// Makes a call in a transaction, or returns which transactions it waits for.
     ///
-    /// Refuses NoTxn, Ended, and Full where as many calls are granted as may be, in this order.
+    /// Refuses NoTxn, Ended, and Full if as many calls are granted as may be, in this order.
     pub fn ask<R: Wait>(&self, rt: &R, txn: TxnId, call: Call) -> Result<Outcome, Fault>
         ensures some_core { InCoreFrom J.origin.from (λ old new. IsStep exact_rule old (Ask txn call) (answer_with outcome_answer result) new) }
     {
@@ -122,14 +121,15 @@ impl<J: Sharing, C: Shareable> Shared<J, C> {
         answer
     }
 
-    /// Asks for a call up to so many times, until it is granted or refused, and answers that; else
-    /// the last answer whom it waits for. What it waits for stays asked for.
+    /// Asks for a call up to so many times, until it is granted or refused, and returns that; else
+    /// the last answer of which transactions it waits for. A call that waits remains the
+    /// transaction's ask.
     ///
-    /// Between two asks the thread pauses, with the lock free: until one of those that the last
-    /// answer told it to wait for has committed or is aborted, or for `MOST_PAUSE` by the clock.
-    /// Nothing else that happens meanwhile ends the pause, so that it uses up no turn. The waiting
-    /// takes no memory; each ask copies the call, before it gets the lock. Refuses what `ask`
-    /// refuses, in its order.
+    /// Between two asks the thread pauses, with the lock free: until one of the transactions that
+    /// the last answer named has committed or is aborted, or for `MOST_PAUSE` by the clock. Nothing
+    /// else that happens meanwhile ends the pause, so that it uses up no turn. The waiting takes no
+    /// memory; each ask copies the call, before it gets the lock. Refuses what `ask` refuses, in
+    /// its order.
     pub fn ask_wait<R: Wait + Clock>(
         &self,
         rt: &R,
@@ -155,7 +155,7 @@ impl<J: Sharing, C: Shareable> Shared<J, C> {
     {
         match call.copy(self.alloc) {
             Ok(copy) => self.ask(rt, txn, copy),
-            // Other refusals stand before want of memory, and the core tells which.
+            // Other refusals come before Memory, and the core returns the right one.
             Err(Memory) => self.ask_copy(rt, txn, call),
         }
     }
@@ -184,11 +184,10 @@ impl<J: Sharing, C: Shareable> Shared<J, C> {
         MutexGuard::unlock(behind);
     }
 
-    /// Makes the call that a transaction waits for, or answers again which transactions it waits
+    /// Makes the call that a transaction waits for, or returns again which transactions it waits
     /// for.
     ///
-    /// Refuses NoTxn, Ended, NoAsk, and Full where as many calls are granted as may be, in this
-    /// order.
+    /// Refuses NoTxn, Ended, NoAsk, and Full if as many calls are granted as may be, in this order.
     pub fn retry<R: Wait>(&self, rt: &R, txn: TxnId) -> Result<Outcome, Fault>
         ensures some_core { InCoreFrom J.origin.from (λ old new. IsStep exact_rule old (Retry txn) (answer_with outcome_answer result) new) }
     {
@@ -210,11 +209,11 @@ impl<J: Sharing, C: Shareable> Shared<J, C> {
         answer
     }
 
-    /// Commits a transaction: its locks and what takes its calls back are its parent's from then
-    /// on; at the top level its locks are let go, and its calls cannot be taken back any more.
-    /// Takes no memory.
+    /// Commits a transaction: its locks and the inverses of its calls are its parent's from then
+    /// on. At the top level its locks are released, and its calls can no longer be undone. Takes no
+    /// memory.
     ///
-    /// Refuses NoTxn, Ended, and ChildLive where it has a live child, in this order.
+    /// Refuses NoTxn, Ended, and ChildLive if it has a live child, in this order.
     pub fn commit<R: Wait>(&self, rt: &R, txn: TxnId) -> Result<(), Fault>
         ensures some_core { InCoreFrom J.origin.from (λ old new. IsStep exact_rule old (Commit txn) (answer_with (λ done. Committed) result) new) }
     {
@@ -227,8 +226,8 @@ impl<J: Sharing, C: Shareable> Shared<J, C> {
         answer
     }
 
-    /// Aborts a transaction with all that is live below it, and answers how many standing calls it
-    /// takes away. If it ran alone, the tree is that of its begin. Takes no memory.
+    /// Aborts a transaction with all that is live below it, and returns how many standing calls it
+    /// undoes. If it ran alone, the tree is that of its begin. Takes no memory.
     ///
     /// Refuses NoTxn and Ended, in this order.
     pub fn abort<R: Wait>(&self, rt: &R, txn: TxnId) -> Result<u64, Fault>
@@ -243,11 +242,11 @@ impl<J: Sharing, C: Shareable> Shared<J, C> {
         answer
     }
 
-    /// Undoes the last of a transaction's own standing calls, and answers its stamp. If it was just
-    /// made, the tree is the one before it. Takes no memory.
+    /// Undoes the last of a transaction's own standing calls, and returns its stamp. If it was the
+    /// call just made, the tree is the one before it. Takes no memory.
     ///
-    /// Refuses NoTxn, Ended, ChildLive, and NothingToUndo where there is none or SubSince where a
-    /// child has committed since, in this order.
+    /// Refuses, in this order, NoTxn, Ended, ChildLive, and then NothingToUndo if there is none or
+    /// SubSince if a child has committed since.
     pub fn undo_call<R: Wait>(&self, rt: &R, txn: TxnId) -> Result<u64, Fault>
         ensures some_core { InCoreFrom J.origin.from (λ old new. IsUndone old txn (answer_with Undone result) new) }
     {
@@ -257,10 +256,10 @@ impl<J: Sharing, C: Shareable> Shared<J, C> {
         answer
     }
 
-    /// The waits-for edges of the core, each once, in their order, and whether there is a cycle of
-    /// just these.
+    /// Returns the waits-for edges of the core, each once, in their order, and whether there is a
+    /// cycle of exactly these.
     ///
-    /// Want of memory is the only refusal.
+    /// Out of memory is the only refusal.
     pub fn waits<R: Wait>(&self, rt: &R) -> Result<(Vec<Edge>, Verdict), Memory>
         ensures edges { IfOk result (λ told. OfCoreFrom J.origin.from (λ state. AreEdgesOf state told.0.items)) }
         ensures verdict { IfOk result (λ told. IsVerdict told.0.items told.1) }
@@ -269,8 +268,8 @@ impl<J: Sharing, C: Shareable> Shared<J, C> {
         with_verdict(edges)
     }
 
-    /// The waits-for edges of the core, each once, in their order. The lock is free when they are
-    /// told.
+    /// Returns the waits-for edges of the core, each once, in their order. The lock is free when it
+    /// returns.
     fn list_edges<R: Wait>(&self, rt: &R) -> Result<Vec<Edge>, Memory>
         ensures { IfOk result (λ edges. OfCoreFrom J.origin.from (λ state. AreEdgesOf state edges.items)) }
     {
@@ -280,14 +279,13 @@ impl<J: Sharing, C: Shareable> Shared<J, C> {
         edges
     }
 
-    /// Publishes the committed calls that are not published yet, and answers how many are published
-    /// then, with a receipt of that list. Readers who learn the receipt see no older one from then
+    /// Publishes the committed calls that are not published yet, and returns how many are published
+    /// then, with a receipt of that list. Readers that learn the receipt see no older one from then
     /// on.
     ///
     /// It holds the lock while it replays the new calls, and while a reader that came before still
     /// looks at the list before: a reader holds it up for one answer, and takes no lock meanwhile.
-    /// Refuses NoViews where the core has none, and then want of memory, and then nothing more is
-    /// published.
+    /// Refuses NoViews if the core has none, and then Memory, and then nothing more is published.
     pub fn publish<R: Wait>(&self, rt: &R) -> Result<(u64, Receipt<ViewsOf<J>>), Fault>
         ensures count { IfOk result (λ told. told.0 ≡ length told.1) }
         ensures committed { IfOk result (λ told. OfCoreFrom J.origin.from (λ state. told.1 ≡ committed_calls state)) }
@@ -301,7 +299,7 @@ impl<J: Sharing, C: Shareable> Shared<J, C> {
     }
 
     /// Ends the sharing, and gives the core back. It waits for the readers that read; readers
-    /// answer NoReader from then on. Takes no memory.
+    /// return NoReader from then on. Takes no memory.
     pub fn into_core<R: Wait>(self, rt: &R) -> C
         ensures { GoesOn J.origin.from (C.stored result).state }
     {
@@ -313,8 +311,8 @@ impl<J: Sharing, C: Shareable> Shared<J, C> {
         behind.into_inner().end(rt)
     }
 
-    /// Gets the lock. The history of the core that stands there is legal, from a sound base, and
-    /// goes on from what was shared.
+    /// Gets the lock. The history of the core behind it is legal, from a sound base, and goes on
+    /// from what was shared.
     fn held<R: Wait>(&self, rt: &R) -> MutexGuard<'_, Behind<J, C>>
         ensures reached { IsReached (mutex_guard_value result).core }
         ensures goes_on { GoesOn J.origin.from (mutex_guard_value result).core.state }

@@ -1,12 +1,12 @@
-// What is shared, and the views of it, as proofs name them.
+// The shared state, and the views of it, as proofs name them.
 use ft_view::Naming;
 use std::marker::{Brand, PhantomData};
 
-/// What is shared: the state of the core at that time, whether it has views, and their book. It is
-/// known in the proofs alone: by it clauses say that whatever is done goes on from that state.
+/// The shared state: that of the core at that time, whether it has views, and their book. It is
+/// known only in the proofs: by it clauses say that whatever is done goes on from that state.
 ///
-/// `Brand` is a type to pick it for, at a call (CALLING.md), and where nothing is picked it stands
-/// for a new core without views.
+/// `Brand` is a type to pick it for, at a call (CALLING.md). If nothing is picked, it means a new
+/// core without views.
 pub trait Sharing {
     ghost use Rattle.ft_shared.specs.Origins.{Origin};
 

@@ -61,7 +61,7 @@ impl Manager for Aborting {
     }
 }
 
-/// What the jobs come to under this manager.
+/// The outcome of the jobs under this manager.
 fn run_aborted<R: Threads + Wait + Clock + Sync>(
     rt: &R,
     alloc: Global,
@@ -79,8 +79,8 @@ fn has_ended(report: &Report, end: End) -> bool {
     report.end == end && report.calls.len() == 1
 }
 
-/// Whether the first job and its subjob are refused the step behind their one call, and the last
-/// job has committed.
+/// Whether the first job and its subjob are refused the step after their one call, and the last job
+/// has committed.
 fn have_ended(reports: &[Report]) -> bool {
     let refused = End::Refused(Fault::Ended);
     match reports {

@@ -17,7 +17,7 @@ const FEW_TURNS: u64 = 3;
 /// How often a call is asked for that is to be granted in the end.
 const MANY_TURNS: u64 = 400;
 
-/// The reply where what a call names is missing.
+/// The reply if what a call names is missing.
 const MISSING: Reply = Reply::Failed(Errno::ENOENT);
 
 fn stat_call(alloc: Global, path: &[u8]) -> Result<Call, Fail> {
@@ -38,7 +38,7 @@ fn make<R: Wait>(
     Ok(())
 }
 
-/// Whether a call waits for this transaction alone.
+/// Whether a call waits for only this transaction.
 fn waits_for(told: &Result<Outcome, Fault>, blocker: TxnId) -> bool {
     match told {
         Ok(Outcome::Waits { blockers }) => blockers.as_slice() == [blocker].as_slice(),

@@ -1,5 +1,5 @@
--- What is written for a line of a strict script, and whether the run goes on behind it. (The format
--- is this project's own: docs/SCRIPT.md.)
+-- The text that is written for a line of a strict script, and whether the run goes on after it.
+-- (The format is this project's own: docs/SCRIPT.md.)
 use Rattle.std.specs.Prelude.{◌≡◌, ℕ, Bool, true, false, ◌||◌, List, [], ◌∷◌, ◌++◌, codes, take, drop, if◌then◌else◌, MatchBool, Option, None, Some}
 use Rattle.std.specs.Option.{option_map_or}
 use Rattle.std.specs.Str.{bytes_eq}
@@ -14,46 +14,47 @@ use Rattle.ft_replies.specs.Requests.{meaning_of}
 use Rattle.ft_replies.specs.Texts.{text_of}
 use Rattle.ft_strict.specs.Wells.{IsMet, is_well}
 
--- what stands behind `try `, where a line begins so
+-- what is after `try `, if a line begins so
 abbrev pub tried : List ℕ → Option (List ℕ)
 tried bytes = if bytes_eq (take 4 bytes) (codes "try ") then Some (drop 4 bytes) else None
 
--- whether a line asks for something that there is
+-- whether a line is a valid request
 abbrev pub is_asking : Line → Bool
 is_asking line.Silent = false
 is_asking line.Bad = false
 is_asking (line.Request request) = true
 is_asking (line.Report report) = true
 
--- what is tried has to ask for something
+-- what is tried must ask for something
 abbrev pub tried_meaning : Line → Line
 tried_meaning meaning = if is_asking meaning then meaning else line.Bad
 
--- What a line of a strict script means: what it means without `--strict`, or, behind `try `, what
--- stands there.
+-- The meaning of a line of a strict script: its meaning without `--strict`, or, after `try `, that
+-- of the rest.
 abbrev pub strict_meaning_of : List ℕ → Line
 strict_meaning_of bytes = option_map_or (λ behind. tried_meaning (meaning_of behind)) (tried bytes) (meaning_of bytes)
 
--- whether the run goes on where it does not do what it asks for
+-- whether the run goes on if it does not do what it requests
 abbrev pub may_fail : List ℕ → Bool
 may_fail bytes = option_map_or (λ behind. is_asking (meaning_of behind)) (tried bytes) false
 
--- What is written for a report, and whether it is told: a tree is not while a transaction is live.
+-- The text that is written for a report, and whether it is given: a tree is not while a transaction
+-- is live.
 abbrev pub Tells : Bool → State → Report → List ℕ → Type 0
 Tells well s Tree text = MatchBool (has_live s) ((well ≡ false) × (text ≡ codes "refused Live" ++ 10 ∷ [])) ((well ≡ true) × IsWholeReport s Tree text)
 Tells well s Locks text = (well ≡ true) × IsWholeReport s Locks text
 Tells well s Attributes text = (well ≡ true) × IsWholeReport s Attributes text
 Tells well s Waits text = (well ≡ true) × IsWholeReport s Waits text
 
--- What is written for a line that is carried out, whether it did what it asks for, and the state
--- then.
+-- The text that is written for a line that is carried out, whether it did what it requests, and the
+-- state then.
 abbrev pub Does : Bool → State → Line → List ℕ → State → Type 0
 Does well old line.Silent text new = (well ≡ true) × (text ≡ []) × (new ≡ old)
 Does well old line.Bad text new = (well ≡ false) × (text ≡ codes "bad line" ++ 10 ∷ []) × (new ≡ old)
 Does well old (line.Request request) text new = (answer : Answer) × IsMet old request answer new × (well ≡ is_well answer) × (text ≡ text_of answer ++ 10 ∷ [])
 Does well old (line.Report report) text new = Tells well old report text × (new ≡ old)
 
--- The same for a line of a strict script; the run goes on behind it where it did what it asks for,
--- or may fail.
+-- The same for a line of a strict script; the run goes on after it if it did what it requests, or
+-- may fail.
 abbrev pub AnswersStrictly : Bool → State → List ℕ → List ℕ → State → Type 0
 AnswersStrictly on old bytes text new = (well : Bool) × Does well old (strict_meaning_of bytes) text new × (on ≡ (well || may_fail bytes))

@@ -1,4 +1,4 @@
--- Whether a request does what it asks for.
+-- Whether a request was granted and did not fail.
 use Rattle.std.specs.Prelude.{◌≢◌, Bool, true, false}
 use Rattle.ft_posix.specs.declared.call.Reply.TheVariants.{Done, Names, Number, Bytes, Info, Failed}
 use Rattle.ft_core.specs.declared.fault.Fault.TheVariants.{Memory as MemoryFault}

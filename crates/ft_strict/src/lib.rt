@@ -1,4 +1,4 @@
-//! One line of a strict script, which has to do what it asks for.
+//! One line of a strict script, which must do what it requests.
 #![tactic(auto)]
 
 mod line;

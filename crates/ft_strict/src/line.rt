@@ -1,4 +1,4 @@
-// What a line of a strict script means.
+// The meaning of a line of a strict script.
 ghost use Rattle.std.specs.Prelude.{◌≡◌, IfOk, option_copied};
 ghost use Rattle.ft_strict.specs.Strict.{is_asking, may_fail, strict_meaning_of, tried};
 
@@ -9,15 +9,16 @@ use std::alloc::Global;
 /// A line of a strict script.
 #[derive(Debug, PartialEq, Eq, Drop)]
 pub(crate) struct StrictLine {
-    /// What it asks for.
+    /// Its meaning.
     pub meaning: Line,
-    /// Whether the run goes on where it does not do that.
+    /// Whether the run goes on if it does not do what it requests.
     pub may_fail: bool,
 }
 
-/// What a line of a strict script means. Behind `try ` a request or a report has to stand.
+/// Returns the meaning of a line of a strict script. After `try ` there must be a request or a
+/// report.
 ///
-/// Fails only for want of memory.
+/// Fails only for lack of memory.
 pub(crate) fn strict_line_of(alloc: Global, line: &[u8]) -> Result<StrictLine, Memory>
     ensures meaning { IfOk result (λ strict. strict.meaning ≡ strict_meaning_of line.now) }
     ensures may_fail { IfOk result (λ strict. strict.may_fail ≡ may_fail line.now) }
@@ -42,14 +43,14 @@ pub(crate) fn strict_line_of(alloc: Global, line: &[u8]) -> Result<StrictLine, M
     })
 }
 
-// What stands behind `try `, where a line begins so.
+// The text after `try `, if a line begins so.
 fn tried(line: &[u8]) -> Option<&[u8]>
     ensures { option_copied result ≡ tried line.now }
 {
     line.strip_prefix(b"try ".as_slice())
 }
 
-// Whether a line asks for something that there is.
+// Whether a line is a valid request.
 fn is_asking(line: &Line) -> bool
     ensures { result ≡ is_asking line.now }
 {

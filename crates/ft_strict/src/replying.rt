@@ -14,16 +14,16 @@ use std::alloc::Global;
 pub struct StrictReply {
     /// Its text, with its line feeds.
     pub text: String,
-    /// Whether the run goes on behind it.
+    /// Whether the run goes on after it.
     pub goes_on: bool,
 }
 
-/// Carries out one line of a strict script, without its line feed, and gives the text of its reply,
-/// as `reply_to` does; but a `tree` while a transaction is live is refused as `Live`. The run goes
-/// on where the line does what it asks for, or stands behind `try `.
+/// Carries out one line of a strict script, without its line feed, and returns the text of its
+/// reply, as `reply_to` does; but a `tree` while a transaction is live is refused as `Live`. The
+/// run goes on if the line does what it requests, or begins with `try `.
 ///
-/// Fails only for want of memory, also for a request or for what a report tells of: then the line
-/// was not carried out, or the memory was wanted for the text of its reply.
+/// Fails only for lack of memory, even for a request or for the contents of a report: then the line
+/// was not carried out, or there was no memory for the text of its reply.
 pub fn strict_reply_to(alloc: Global, line: &[u8], core: &mut Core) -> Result<StrictReply, Memory>
     ensures ok { IfOk result (λ reply. AnswersStrictly reply.goes_on core.old.state line.now (string_bytes reply.text) core.new.state) }
     ensures err { OnErr result ((core.new.state ≡ core.old.state)
@@ -37,7 +37,7 @@ pub fn strict_reply_to(alloc: Global, line: &[u8], core: &mut Core) -> Result<St
     })
 }
 
-// Carries out what a line asks for, and gives the text of its reply, and whether it did that.
+// Carries out the request of a line, and returns the text of its reply, and whether it did that.
 fn reply_to_meaning(alloc: Global, line: Line, core: &mut Core) -> Result<(String, bool), Memory>
     ensures ok { IfOk result (λ reply. Does reply.1 core.old.state line (string_bytes reply.0) core.new.state) }
     ensures err { OnErr result ((core.new.state ≡ core.old.state)
@@ -66,7 +66,7 @@ fn reply_to_request(
     Ok((text, is_well(&answer)))
 }
 
-// A report, and whether it is told: a tree is not while a transaction is live.
+// A report, and whether it is given: a tree is not while a transaction is live.
 fn reply_to_report(alloc: Global, report: Report, core: &Core) -> Result<(String, bool), Memory>
     ensures { IfOk result (λ reply. Tells reply.1 core.now.state report (string_bytes reply.0)) }
 {

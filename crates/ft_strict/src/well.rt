@@ -1,4 +1,4 @@
-// Whether a request does what it asks for.
+// Whether a request was granted and did not fail.
 ghost use Rattle.std.specs.Prelude.{◌≡◌, ◌↔◌, IfOk, IsTrue, OnErr};
 ghost use Rattle.ft_strict.specs.Wells.{IsMet, is_well};
 
@@ -7,9 +7,9 @@ use ft_calls::Reply;
 use ft_core::{Answer, Core, Fault, Request};
 use ft_replies::carry_out;
 
-/// Carries out a request, as `carry_out` does, for which there has to be memory.
+/// Carries out a request, as `carry_out` does, for which there must be memory.
 ///
-/// Fails only for want of memory.
+/// Fails only for lack of memory.
 pub fn try_carry_out(core: &mut Core, request: Request) -> Result<Answer, Memory>
     ensures ok { IfOk result (λ answer. IsMet core.old.state request answer core.new.state) }
     ensures err { OnErr result (core.new.state ≡ core.old.state) }

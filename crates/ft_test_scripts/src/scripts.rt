@@ -1,4 +1,4 @@
-// Requests and the answers that they are to get, from whoever answers them.
+// Requests, and the answers that they are to get from a core, however it is reached.
 use ft_calls::{Call, Reply};
 use ft_core::{Answer, Core, Fault, Request, TxnId};
 use ft_path::{Errno, FilePath, Name};
@@ -15,7 +15,7 @@ pub enum Line<'a> {
     Mkdir(u64, &'a [u8]),
     Rmdir(u64, &'a [u8]),
     List(u64, &'a [u8]),
-    /// To read and write, and made where it is not there.
+    /// To read and write, and made if it is not there.
     Open(u64, &'a [u8]),
     Unlink(u64, &'a [u8]),
     /// Its target, and then its path.
@@ -48,7 +48,7 @@ pub enum Wanted<'a> {
     Txn(u64),
     Done(u64),
     Failed(u64, Errno),
-    /// The names in their order, one behind the other.
+    /// The names in their order, one after the other.
     Names(u64, &'a [u8]),
     /// The same, and each the name of a directory.
     Directories(u64, &'a [u8]),
@@ -170,13 +170,13 @@ fn request(alloc: Global, line: Line) -> Result<Request, Fail> {
     }
 }
 
-/// Whether the names are these, one behind the other.
+/// Whether the names are these, one after the other.
 fn are_names(names: &[(Name, Kind)], wanted: &[u8]) -> bool {
     let all = names.iter().flat_map(|(name, _)| name.as_bytes());
     all.copied().eq(wanted.iter().copied())
 }
 
-/// Whether a reply tells of such a thing, with this number, so many links and this size.
+/// Whether a reply describes such a thing, with this number, so many links and this size.
 fn is_info(reply: &Reply, wanted: Kind, numbers: [u64; 3]) -> bool {
     match reply {
         Reply::Info {
@@ -198,7 +198,7 @@ fn of_seconds(seconds: i64) -> Timestamp {
     }
 }
 
-/// Whether a reply tells of this mode, with owner and group 0, and of this time.
+/// Whether a reply has this mode, with owner and group 0, and this time.
 fn has_attributes(reply: &Reply, mode: Option<u16>, seconds: Option<i64>) -> bool {
     let wanted = mode.map(|mode| Attributes {
         mode,
@@ -265,7 +265,7 @@ fn is_answer(answer: &Answer, wanted: Wanted) -> bool {
     }
 }
 
-/// What answers requests.
+/// A receiver of requests.
 pub trait Answers {
     fn answer_to(&mut self, request: Request) -> Answer;
 }
@@ -293,7 +293,8 @@ impl Answers for Recorded {
     }
 }
 
-/// Carries a script out, one request for each line, and says whether each is answered as it says.
+/// Carries a script out, one request for each line, and returns whether each is answered as it
+/// says.
 pub fn plays<A: Answers>(
     alloc: Global,
     answers: &mut A,

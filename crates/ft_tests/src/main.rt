@@ -1,4 +1,4 @@
-//! Tests of the core and of what stands right on it, in one crate: a crate with tests is proved a
+//! Tests of the core and of the crates right above it, in one crate: a crate with tests is proved a
 //! second time with them.
 #![tactic(auto)]
 

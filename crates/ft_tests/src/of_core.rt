@@ -10,19 +10,19 @@ use ft_tree::{Cell, TreeRow};
 use std::alloc::Global;
 use std::test::Fail;
 
-/// Carries a script out on a new core, and says whether each line is answered as it says.
+/// Carries a script out on a new core, and returns whether each line is answered as it says.
 fn plays_anew(alloc: Global, script: &[(Line, Wanted)]) -> Result<bool, Fail> {
     let mut core = Core::new(alloc)?;
     plays(alloc, &mut core, script)
 }
 
-/// The same, and whether the tree holds the root alone then.
+/// The same, and whether the tree holds only the root then.
 fn plays_to_nothing(alloc: Global, script: &[(Line, Wanted)]) -> Result<bool, Fail> {
     let mut core = Core::new(alloc)?;
     Ok(plays(alloc, &mut core, script)? && is_bare(&core)?)
 }
 
-/// Whether the tree holds the root alone.
+/// Whether the tree holds only the root.
 fn is_bare(core: &Core) -> Result<bool, Fail> {
     let rows = core.tree().rows()?;
     Ok(rows.as_slice() == [TreeRow::Dir { number: 1 }].as_slice())
@@ -102,8 +102,8 @@ fn abort_in_log_order(rt: HostRuntime) -> Result<(), Fail> {
     Ok(())
 }
 
-/// Carries a script out on a new core, and says whether each line is answered as it says, so many
-/// events stand then, and the tree holds the root alone.
+/// Carries a script out on a new core, and returns whether each line is answered as it says, so
+/// many events stand then, and the tree holds only the root.
 fn walks_back(alloc: Global, script: &[(Line, Wanted)], events: usize) -> Result<bool, Fail> {
     let mut core = Recorded::new(alloc)?;
     let is_played = plays(alloc, &mut core, script)?;
@@ -199,8 +199,8 @@ impl Answers for SweptCore {
     }
 }
 
-/// Carries a script out on a new core with a sweep before each line, and says whether the tree
-/// holds the root alone then.
+/// Carries a script out on a new core with a sweep before each line, and returns whether the tree
+/// holds only the root then.
 fn sweeps_to_nothing(alloc: Global, script: &[(Line, Wanted)]) -> Result<bool, Fail> {
     let mut swept = SweptCore(Core::new(alloc)?);
     Ok(plays(alloc, &mut swept, script)? && is_bare(&swept.0)?)
@@ -239,7 +239,7 @@ fn drops_two_after_abort(core: &mut Core) -> bool {
     before == 0 && aborted == Ok(1) && after == 2 && core.sweep() == 0
 }
 
-/// The same on a new core, behind a script.
+/// The same on a new core, after a script.
 fn sweeps_two(alloc: Global, script: &[(Line, Wanted)]) -> Result<bool, Fail> {
     let mut core = Core::new(alloc)?;
     Ok(plays(alloc, &mut core, script)? && drops_two_after_abort(&mut core))
@@ -267,7 +267,7 @@ fn waits_for_its_child(core: &Core, parent: u64, child: u64) -> Result<bool, Fai
     Ok(waits && children.as_slice() == [LiveChild { parent, child }].as_slice())
 }
 
-/// Whether transaction 3 waits for 4 alone behind a script, and is its parent.
+/// Whether transaction 3 waits for 4 alone after a script, and is its parent.
 fn leaves_waiting(alloc: Global, script: &[(Line, Wanted)]) -> Result<bool, Fail> {
     let mut core = Core::new(alloc)?;
     Ok(plays(alloc, &mut core, script)? && waits_for_its_child(&core, 3, 4)?)
@@ -315,7 +315,7 @@ fn hands_locks_up(core: &mut Core) -> Result<bool, Fail> {
     Ok(are_held && are_locks(lines.as_slice(), 1, LockKind::Retained))
 }
 
-/// The same on a new core, behind a script.
+/// The same on a new core, after a script.
 fn hands_up_behind(alloc: Global, script: &[(Line, Wanted)]) -> Result<bool, Fail> {
     let mut core = Core::new(alloc)?;
     Ok(plays(alloc, &mut core, script)? && hands_locks_up(&mut core)?)
@@ -364,7 +364,7 @@ fn is_at_base(core: &Recorded) -> Result<bool, Fail> {
     Ok(base.as_slice() == tree.as_slice() && core.history().is_empty())
 }
 
-/// Carries a script out on a new core of this rule, and says whether each line is answered as it
+/// Carries a script out on a new core of this rule, and returns whether each line is answered as it
 /// says, and the core then stands at its base, by the same rule.
 fn ends_at_base(alloc: Global, rule: Rule, script: &[(Line, Wanted)]) -> Result<bool, Fail> {
     let mut core = Recorded::with_rule(alloc, rule)?;

@@ -22,7 +22,7 @@ fn stat_call(alloc: Global) -> Result<Call, Fail> {
     Ok(Call::Stat { path })
 }
 
-/// Whether a core tells a deadlock of two, where there is one.
+/// Whether a core reports a deadlock of two, if there is one.
 fn tells_deadlock<R: Wait>(rt: &R, shared: &Shared) -> Result<bool, Fail> {
     let (edges, verdict) = shared.waits(rt)?;
     Ok(is_deadlock(edges.as_slice(), &verdict))
@@ -59,7 +59,7 @@ fn cross<R: Wait>(rt: &R, alloc: Global, shared: &Shared) -> Result<(), Fail> {
     Ok(())
 }
 
-/// Whether a core in which they do so tells it.
+/// Whether a core in which they do so reports it.
 fn tells_crossing<R: Wait>(rt: &R, alloc: Global, shared: &Shared) -> Result<bool, Fail> {
     cross(rt, alloc, shared)?;
     tells_deadlock(rt, shared)
@@ -158,7 +158,7 @@ fn end_others<R: Wait + Clock>(rt: &R, shared: &Shared) -> Result<(), Fault> {
     Ok(())
 }
 
-/// How long a waiter waits in vain beside a thread in which others end.
+/// How long a waiter waits in vain while others end in another thread.
 fn time_beside_others<R: Threads + Wait + Clock + Sync>(
     rt: &R,
     shared: &Shared,

@@ -11,7 +11,7 @@ pub fn new_shared(alloc: Global) -> Result<Shared<Brand, Core>, Fault> {
     Shared::new(Core::new(alloc)?).map_err(|refused| refused.fault)
 }
 
-/// Carries a request out through the lock. Fails for a checkpoint alone.
+/// Carries a request out through the lock. Fails only for a checkpoint.
 pub fn carry_out<R: Wait>(
     rt: &R,
     shared: &Shared<Brand, Core>,

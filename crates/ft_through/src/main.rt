@@ -1,7 +1,7 @@
 //! The program `ft_through`: it plays the script on standard input as `ft_run play` does, but
 //! through a lock, request by request, and prints the same replies.
 //!
-//! A script that asks for a checkpoint ends it, since there is none through a lock.
+//! A script that requests a checkpoint ends it, since there is none through a lock.
 #![tactic(auto)]
 
 mod locked;

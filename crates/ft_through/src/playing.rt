@@ -11,8 +11,8 @@ use std::marker::Brand;
 use std::sync::Wait;
 use std::thread::{self, Threads};
 
-/// Plays a script, line by line, and writes the replies. Beside it another thread asks once who
-/// waits for whom, which changes nothing.
+/// Plays a script, line by line, and writes the replies. Meanwhile another thread asks once which
+/// transaction waits for which, which changes nothing.
 pub fn play<R: Threads + Wait + Sync, W: Write>(
     rt: &R,
     alloc: Global,

@@ -9,7 +9,7 @@ pub struct Counts {
     pub every: u64,
     /// How often a reader stats.
     pub reads: u64,
-    /// How often a transaction asks for a stat.
+    /// How often a transaction requests a stat.
     pub asks: u64,
 }
 

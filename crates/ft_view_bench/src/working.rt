@@ -1,4 +1,4 @@
-// What is counted.
+// The work that is counted.
 ghost use Rattle.std.specs.Prelude.{◌≡◌};
 ghost use Rattle.ft_shared.specs.Opening.{named_by};
 
@@ -12,7 +12,7 @@ use ft_view::Reader;
 use std::alloc::Global;
 use std::sync::Wait;
 
-/// Does all of it, and answers how many calls are published then.
+/// Does all of it, and returns how many calls are published then.
 pub fn work<J: Sharing, R: Wait>(
     rt: &R,
     alloc: Global,
@@ -63,7 +63,7 @@ fn make<J: Sharing, R: Wait>(
     Ok(())
 }
 
-/// Stats so many times, and answers how many calls the list has then.
+/// Stats so many times, and returns how many calls the list has then.
 fn read<J: Sharing>(reader: &mut Reader<ViewsOf<J>>, reads: u64, path: &FilePath) -> Result<u64> {
     let mut published = 0;
     for _ in 0..reads {

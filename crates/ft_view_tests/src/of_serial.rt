@@ -1,5 +1,5 @@
-// The serial order: what stands in it, and that its replay gives the tree of the core, from a new
-// tree and from a base.
+// The serial order: what is in it, and that its replay gives the tree of the core, from a new tree
+// and from a base.
 ghost use Rattle.std.specs.Prelude.{◌≢◌};
 ghost use Rattle.ft_laws.specs.Lists.{Each, Pairs};
 ghost use Rattle.ft_tree.specs.Sound.{AreSoundCells, IsFree};

@@ -1,4 +1,4 @@
-// Views of what has committed: what readers see before a publish and after it, beside one, and from
+// Views of what has committed: what readers see before a publish and after it, during one, and from
 // another base.
 ghost use Rattle.std.specs.Prelude.{◌≡◌};
 ghost use Rattle.ft_shared.specs.Opening.{named_by};
@@ -19,7 +19,7 @@ use std::test::Fail;
 use std::thread;
 use std::thread::Threads;
 
-/// What is done with the views of a core, and whether all is answered as it should be.
+/// The steps with the views of a core, and whether all is answered as it should be.
 trait Steps {
     fn take<J: Sharing, R: Wait>(
         &self,
@@ -285,7 +285,7 @@ fn views_of_another_base(rt: HostRuntime) -> Result<(), Fail> {
     Ok(())
 }
 
-/// A reader sees the names of a base of which all was taken back: none.
+/// A reader sees the names of a base of which all was undone: none.
 struct BareBase;
 
 impl Steps for BareBase {
@@ -383,7 +383,7 @@ const READERS: u64 = 4;
 
 const LOOKS: u64 = 300;
 
-/// Makes a directory in a transaction of its own, and answers how many calls are published then.
+/// Makes a directory in a transaction of its own, and returns how many calls are published then.
 fn publish_one<J: Sharing, R: Wait>(
     rt: &R,
     alloc: Global,
@@ -398,7 +398,7 @@ fn publish_one<J: Sharing, R: Wait>(
     published(rt, shared).ok()
 }
 
-/// Publishes directories one by one, and says whether each makes it one call more.
+/// Publishes directories one by one, and returns whether each makes it one call more.
 fn publish_each<J: Sharing, R: Wait>(rt: &R, alloc: Global, shared: &Shared<J>) -> bool {
     for number in 0..DIRECTORIES {
         if publish_one(rt, alloc, shared, number) != Some(number + 1) {
@@ -408,7 +408,7 @@ fn publish_each<J: Sharing, R: Wait>(rt: &R, alloc: Global, shared: &Shared<J>) 
     true
 }
 
-/// How many calls a reader is told of, where the list has as many names.
+/// How many calls a reader sees, if the list has as many names.
 fn count<J: Sharing>(reader: &mut Reader<ViewsOf<J>>, path: &FilePath) -> Option<u64> {
     match &reader.list(path) {
         Ok((calls, Reply::Names(names))) if names.len() as u64 == *calls => Some(*calls),

@@ -1,5 +1,5 @@
--- Who waits for whom where calls wait behind older asks, and who is ahead of one that asks. (Rules
--- of this project.)
+-- The waits-for edges if calls wait behind older asks, and which transactions are ahead of one that
+-- asks. (Rules of this project.)
 use Rattle.std.specs.Prelude.{◌≡◌, ◌↔◌, ◌⊎◌, ◌==◌, ◌≤◌, ℕ, Bool, true, false, List, Some, length}
 use Rattle.std.specs.FinMap as finite
 use Rattle.std.specs.List.{list_any}
@@ -10,8 +10,8 @@ use Rattle.ft_core.specs.Fairness.{fair_rule, in_front}
 use Rattle.ft_waits.specs.declared.edge.Edge.{Edge}
 use Rattle.ft_waits.specs.Edges.{WaitsForChild}
 
--- A transaction waits for a call, and the other is in the way of it where it waits behind those in
--- front of it in a queue.
+-- A transaction waits for a call, and the other blocks it, if it waits behind those in front of it
+-- in a queue.
 pub record WaitsBehind (s : State) (queue : List ℕ) (from to : ℕ) : Type 0 where
   pub call : Call
   pub pending : finite.get s.asks from ≡ Some call
@@ -34,8 +34,8 @@ HasAllWhoWait s queue among = (from to : ℕ) → MayWaitFor s queue from to →
 abbrev pub WaitsThrough : State → List ℕ → ℕ → ℕ → Type 0
 WaitsThrough s queue from to = (among : ℕ → Bool) → HasAllWhoWait s queue among → among to ≡ true → among from ≡ true
 
--- Those ahead of t: who stands in front of it in the queue, and does not wait for it, through
--- others or not. So whoever waits behind them closes no cycle.
+-- Those ahead of t: they are in front of it in the queue, and do not wait for it, through others or
+-- not. So no wait behind them closes a cycle.
 abbrev pub AreAhead : State → List ℕ → ℕ → List ℕ → Type 0
 AreAhead s queue t ahead = (u : ℕ) → (list_any (λ x. x == u) ahead ≡ true) ↔ ((list_any (λ x. x == u) (in_front queue t) ≡ true) × ¬ WaitsThrough s queue u t)
 
@@ -52,12 +52,12 @@ pub record AreWhoWait (edges : List Edge) (t : ℕ) (found : ℕ → Bool) : Typ
   pub least : (among : ℕ → Bool) → IsClosedAlong edges among → among t ≡ true → (u : ℕ) → found u ≡ true → among u ≡ true
 
 -- One pass over the edges that are left: those that lead to one that was found are left out, and
--- those from whom they lead are found.
+-- those from which they lead are found.
 pub record IsPass (rest left : List Edge) (old new : ℕ → Bool) : Type 0 where
   pub kept : (e : Edge) → In e rest → In e left ⊎ (new e.from ≡ true)
   pub part : (e : Edge) → In e left → In e rest
   pub grows : (u : ℕ) → old u ≡ true → new u ≡ true
   pub least : (among : ℕ → Bool) → IsClosedAlong rest among → ((u : ℕ) → old u ≡ true → among u ≡ true) → (u : ℕ) → new u ≡ true → among u ≡ true
   pub fewer : length left ≤ length rest
-  -- where all are left, none of them leads to one that was found
+  -- if all are left, none of them leads to one that was found
   pub done : length left ≡ length rest → (e : Edge) → In e left → new e.to ≡ false

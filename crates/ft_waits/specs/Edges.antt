@@ -14,8 +14,8 @@ use Rattle.ft_waits.specs.declared.edge.Edge.{Edge}
 use Rattle.ft_waits.specs.declared.edge.EdgeKind.{EdgeKind}
 use Rattle.ft_waits.specs.declared.edge.EdgeKind.TheVariants.{Lock, Child}
 
--- A transaction waits for another's lock: it has a pending ask, and the other is in the way of it
--- now, on the tree of the state and with the next stamp (Moss, to wait for a lock).
+-- A transaction waits for another's lock: it has a pending ask, and the other blocks it now, on the
+-- tree of the state and with the next stamp (Moss, to wait for a lock).
 pub record WaitsForLock (s : State) (from to : ℕ) : Type 0 where
   pub call : Call
   pub pending : finite.get s.asks from ≡ Some call
@@ -36,11 +36,11 @@ abbrev pub kind_rank : EdgeKind → ℕ
 kind_rank Lock = 0
 kind_rank Child = 1
 
--- by who waits, then by for whom, then by the reason, a lock before a child
+-- by the waiting transaction, then by its blocker, then by the reason, a lock before a child
 abbrev pub edge_cmp : Edge → Edge → Ordering
 edge_cmp x y = ordering_then (nat_cmp x.from y.from) (ordering_then (nat_cmp x.to y.to) (nat_cmp (kind_rank x.kind) (kind_rank y.kind)))
 
--- each edge comes before all that stand behind it
+-- each edge comes before all those after it
 abbrev pub AreRising : List Edge → Type 0
 AreRising edges = Pairs (λ x y. edge_cmp x y ≡ Less) edges
 

@@ -1,4 +1,4 @@
--- How the kinds of waits-for edges are told.
+-- The words for the kinds of waits-for edges.
 use Rattle.std.specs.Prelude.{ℕ, List, codes}
 use Rattle.ft_waits.specs.declared.edge.EdgeKind.{EdgeKind}
 use Rattle.ft_waits.specs.declared.edge.EdgeKind.TheVariants.{Lock, Child}

@@ -1,5 +1,4 @@
--- What is listed of the waits-for edges of a core, before it is put in order. No public clause
--- cites it.
+-- The list of the waits-for edges of a core, before it is put in order. No public clause cites it.
 use Rattle.std.specs.Prelude.{ℕ, List, map}
 use Rattle.ft_core.specs.declared.reports.LiveChild.{LiveChild}
 use Rattle.ft_waits.specs.declared.edge.Edge.{Edge}

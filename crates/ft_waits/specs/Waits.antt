@@ -1,5 +1,5 @@
--- Waits-for edges between transactions: cycles of them, and the ranks where there is none. (Moss:
--- a deadlock is a cycle of waits-for edges. Ranks are a rule of this project.)
+-- Waits-for edges between transactions: cycles of them, and the ranks if there is none. (Moss: a
+-- deadlock is a cycle of waits-for edges. Ranks are a rule of this project.)
 use Rattle.std.specs.Prelude.{◌≡◌, ◌<◌, ◌≤◌, ◌↔◌, ◌⊎◌, ℕ, zero, suc, List, [], ◌∷◌, map, All, Any, Contains, nat_eq}
 use Rattle.std.specs.List.{IsDistinct}
 use Rattle.std.specs.List.Sorted.{IsStrictlyIncreasing}
@@ -15,7 +15,7 @@ HasEdge edges from to = Any (λ edge. (edge.from ≡ from) × (edge.to ≡ to)) 
 abbrev pub IsNamed : List Edge → ℕ → Type 0
 IsNamed edges txn = Any (λ edge. (edge.from ≡ txn) ⊎ (edge.to ≡ txn)) edges
 
--- the first of some transactions; where there is none, `to`
+-- the first of some transactions; if there is none, `to`
 abbrev pub first_or : List ℕ → ℕ → ℕ
 first_or [] to = to
 first_or (txn ∷ others) to = txn
@@ -45,7 +45,7 @@ HasNoCycle edges = (members : List ℕ) → ¬ IsCycle edges members
 abbrev pub txns_of : List (ℕ × ℕ) → List ℕ
 txns_of ranks = map (λ entry. entry.0) ranks
 
--- the transactions that have a rank are just those that the edges name
+-- the transactions that have a rank are exactly those that the edges name
 abbrev pub RankAllNamed : List Edge → List (ℕ × ℕ) → Type 0
 RankAllNamed edges ranks = (txn : ℕ) → Contains (txns_of ranks) txn ↔ IsNamed edges txn
 
@@ -54,8 +54,8 @@ abbrev pub IsGreatestAhead : List Edge → List (ℕ × ℕ) → ℕ → ℕ →
 IsGreatestAhead edges ranks txn rank =
     ((to : ℕ) × HasEdge edges txn to × Contains ranks (to, rank)) × ((to other : ℕ) → HasEdge edges txn to → Contains ranks (to, other) → other ≤ rank)
 
--- 0 where no edge goes out of the transaction, else one more than the greatest rank that an edge
--- out of it leads to (in the theory of graphs, the length of a longest walk)
+-- 0 if no edge goes out of the transaction, else one more than the greatest rank that an edge out
+-- of it leads to (in the theory of graphs, the length of a longest walk)
 abbrev pub IsRank : List Edge → List (ℕ × ℕ) → ℕ → ℕ → Type 0
 IsRank edges ranks txn zero = (to : ℕ) → ¬ HasEdge edges txn to
 IsRank edges ranks txn (suc rank) = IsGreatestAhead edges ranks txn rank
@@ -68,12 +68,12 @@ AreRanks edges ranks = (txn rank : ℕ) → Contains ranks (txn, rank) → IsRan
 abbrev pub FallAlong : List Edge → List (ℕ × ℕ) → Type 0
 FallAlong edges ranks = (from to high low : ℕ) → HasEdge edges from to → Contains ranks (from, high) → Contains ranks (to, low) → low < high
 
--- a fact of the members, where the verdict is a cycle
+-- a fact of the members, if the verdict is a cycle
 abbrev pub IfCycle : (List ℕ → Type 0) → Verdict → Type 0
 IfCycle P (Cycle members) = P members
 IfCycle P (Ranked ranks) = Unit {0}
 
--- a fact of the ranks, where the verdict is ranks
+-- a fact of the ranks, if the verdict is ranks
 abbrev pub IfRanked : (List (ℕ × ℕ) → Type 0) → Verdict → Type 0
 IfRanked P (Cycle members) = Unit {0}
 IfRanked P (Ranked ranks) = P ranks

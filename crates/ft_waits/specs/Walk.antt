@@ -1,4 +1,4 @@
--- What a walk along waits-for edges keeps true of itself. No public clause cites it.
+-- The invariant of a walk along waits-for edges. No public clause cites it.
 use Rattle.std.specs.Prelude.{◌≡◌, ◌+◌, ◌-◌, ◌^◌, ◌<◌, ◌≤◌, ◌⊎◌, ℕ, true, List, [], ◌∷◌, Some, None, map, length, take, drop, All, Contains, nat_eq, ◌==◌, not}
 use Rattle.std.specs.List.{IsDistinct, prefix_len}
 use Rattle.std.specs.List.Sorted.{IsNonDecreasingBy}
@@ -8,7 +8,7 @@ use Rattle.ft_waits.specs.declared.edge.Edge.{Edge}
 use Rattle.ft_waits.specs.declared.walk.Step.{Step}
 use Rattle.ft_waits.specs.Waits.{HasEdge, IsNamed}
 
--- the edges stand in the order of the transactions that they go out of
+-- the edges are in the order of the transactions that they go out of
 abbrev pub AreInOrder : List Edge → Type 0
 AreInOrder edges = IsNonDecreasingBy (λ edge. edge.from) edges
 
@@ -67,8 +67,8 @@ pub record AreRanked (edges : List Edge) (unseen : Txns) (ranks : Ranks) : Type 
 abbrev pub path_txns : List Step → List ℕ
 path_txns steps = map (λ step. step.txn) steps
 
--- the whole walk, where these steps are on the path: they differ, and each transaction that is
--- named is unseen, ranked or on the path
+-- the whole walk, if these steps are on the path: they differ, and each transaction that is named
+-- is unseen, ranked or on the path
 pub record IsWalk (edges : List Edge) (unseen : Txns) (ranks : Ranks) (steps : List Step) : Type 0 where
   pub ranked : AreRanked edges unseen ranks
   pub steps_are : All (IsStep edges ranks) steps

@@ -1,4 +1,4 @@
-// Who is ahead of a transaction that asks for a call, where calls wait behind older asks.
+// The transactions ahead of one that asks for a call, if calls wait behind older asks.
 ghost use Rattle.std.specs.Prelude.{◌≡◌, IfOk, filter, not};
 ghost use Rattle.std.specs.FinMap as finite;
 ghost use Rattle.ft_waits.specs.Behind.{AreAhead, AreEdgesBehind, AreWhoWait, IsPass};
@@ -9,11 +9,11 @@ use ft_base::{Memory, Table};
 use ft_core::{Core, TxnId, in_front};
 use std::alloc::Global;
 
-/// Those ahead of a transaction: who stands in front of it in a queue, and does not wait for it,
-/// through others or not. One that is not in the queue stands behind all of it.
+/// Returns those ahead of a transaction: they are in front of it in a queue, and do not wait for
+/// it, through others or not. One that is not in the queue is behind all of it.
 ///
-/// Want of memory is the only refusal. Where somebody stands in front of it, it takes the time to
-/// list all waits of the core.
+/// Out of memory is the only refusal. If any are in front of it, it takes the time to list all
+/// waits of the core.
 pub fn ahead_of(core: &Core, queue: &[TxnId], txn: TxnId) -> Result<Vec<TxnId>, Memory>
     ensures { IfOk result (λ ahead. AreAhead core.now.state queue.now txn ahead.items) }
 {
@@ -27,8 +27,8 @@ pub fn ahead_of(core: &Core, queue: &[TxnId], txn: TxnId) -> Result<Vec<TxnId>, 
     Ok(ahead)
 }
 
-/// An edge for each transaction that may wait for another, where calls wait behind those that stand
-/// in front of them in a queue.
+/// Returns an edge for each transaction that may wait for another, if calls wait behind those in
+/// front of them in a queue.
 fn edges_behind(core: &Core, queue: &[TxnId]) -> Result<Vec<Edge>, Memory>
     ensures { IfOk result (λ edges. AreEdgesBehind core.now.state queue.now edges.items) }
 {
@@ -40,7 +40,7 @@ fn edges_behind(core: &Core, queue: &[TxnId]) -> Result<Vec<Edge>, Memory>
     Ok(edges)
 }
 
-/// Those from whom edges lead to a transaction, through others or not, and itself.
+/// Returns the transactions from which edges lead to one, through others or not, and itself.
 fn who_wait(alloc: Global, edges: Vec<Edge>, txn: TxnId) -> Result<Table<()>, Memory>
     ensures { IfOk result (λ found. AreWhoWait edges.items txn (λ u. finite.contains_key found u)) }
 {
@@ -56,7 +56,7 @@ fn who_wait(alloc: Global, edges: Vec<Edge>, txn: TxnId) -> Result<Table<()>, Me
     }
 }
 
-/// Finds those from whom edges lead to one that was found, and leaves the edges that do not.
+/// Finds those from which edges lead to one that was found, and leaves the edges that do not.
 fn pass(alloc: Global, rest: Vec<Edge>, found: &mut Table<()>) -> Result<Vec<Edge>, Memory>
     ensures { IfOk result (λ left. IsPass rest.items left.items (λ u. finite.contains_key found.old u) (λ u. finite.contains_key found.new u)) }
 {
@@ -71,7 +71,7 @@ fn pass(alloc: Global, rest: Vec<Edge>, found: &mut Table<()>) -> Result<Vec<Edg
     Ok(left)
 }
 
-/// Those of some transactions that are not among others.
+/// Returns those of some transactions that are not among others.
 fn others(alloc: Global, txns: &[TxnId], among: &Table<()>) -> Result<Vec<TxnId>, Memory>
     ensures { IfOk result (λ list. list.items ≡ filter (λ u. not (finite.contains_key among.now u)) txns.now) }
 {

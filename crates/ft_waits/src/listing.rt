@@ -13,10 +13,10 @@ use crate::verdict::{Verdict, judge};
 use ft_base::Memory;
 use ft_core::{Core, LiveChild, Pending};
 
-/// The waits-for edges of a core as it is now, each once, in their order.
+/// Returns the waits-for edges of a core as it is now, each once, in their order.
 ///
-/// One goes from each transaction with a pending ask to each that is in the way of it, and one from
-/// each live transaction to each live child. Want of memory is the only refusal. Beside what
+/// One goes from each transaction with a pending ask to each that blocks it, and one from each live
+/// transaction to each live child. Out of memory is the only refusal. In addition to what
 /// `Core::pending` and `Core::children` take, it takes the time to sort the edges.
 pub fn edges(core: &Core) -> Result<Vec<Edge>, Memory>
     ensures { IfOk result (λ edges. AreEdgesOf core.now.state edges.items) }
@@ -30,10 +30,10 @@ pub fn edges(core: &Core) -> Result<Vec<Edge>, Memory>
     Ok(edges)
 }
 
-/// The waits-for edges of a core as it is now, each once, in their order, and the verdict on just
-/// these.
+/// Returns the waits-for edges of a core as it is now, each once, in their order, and the verdict
+/// on exactly these.
 ///
-/// Want of memory is the only refusal.
+/// Out of memory is the only refusal.
 pub fn judged_edges(core: &Core) -> Result<(Vec<Edge>, Verdict), Memory>
     ensures edges { IfOk result (λ told. AreEdgesOf core.now.state told.0.items) }
     ensures verdict { IfOk result (λ told. IsVerdict told.0.items told.1) }
@@ -43,7 +43,7 @@ pub fn judged_edges(core: &Core) -> Result<(Vec<Edge>, Verdict), Memory>
 
 /// These waits-for edges, and the verdict on them.
 ///
-/// Want of memory is the only refusal.
+/// Out of memory is the only refusal.
 pub fn with_verdict(edges: Vec<Edge>) -> Result<(Vec<Edge>, Verdict), Memory>
     ensures edges { IfOk result (λ told. told.0.items ≡ edges.items) }
     ensures verdict { IfOk result (λ told. IsVerdict edges.items told.1) }

@@ -11,21 +11,21 @@ use ft_base::{Memory, Sequence};
 use ft_core::TxnId;
 use std::alloc::Global;
 
-/// What waits-for edges come to: a deadlock, or ranks in whose order all can end.
+/// The verdict on waits-for edges: a deadlock, or ranks in whose order all can end.
 #[derive(Debug, PartialEq, Eq, Drop)]
 pub enum Verdict {
     /// Each member waits for the next, and the last for the first. The least comes first.
     Cycle(Sequence<TxnId>),
-    /// All transactions that the edges name, in rising order, each with its rank: 0 where it waits
-    /// for none, else one more than the greatest rank of those that it waits for.
+    /// All transactions that the edges name, in rising order, each with its rank: 0 if it waits for
+    /// none, else one more than the greatest rank of those that it waits for.
     Ranked(Sequence<(TxnId, u64)>),
 }
 
-/// Judges waits-for edges: in any order, however often each stands there, between transactions of
-/// any numbers.
+/// Judges waits-for edges: in any order, however often each is there, between transactions of any
+/// numbers.
 ///
-/// Answers a cycle where there is one, and else the ranks. Which cycle it is, where there are
-/// several, is left open. An edge from a transaction to itself is a cycle of one member. Want of
+/// Returns a cycle if there is one, and else the ranks. If there are several cycles, it is left
+/// open which one it returns. An edge from a transaction to itself is a cycle of one member. Out of
 /// memory is the only refusal. Takes time near linear in the number of edges, and a depth of calls
 /// that does not grow with it.
 pub fn judge(alloc: Global, edges: &[Edge]) -> Result<Verdict, Memory>
@@ -67,7 +67,7 @@ fn turn_to_least(members: &mut [TxnId])
     members.rotate_left(place);
 }
 
-/// The place of a member that none is less than; 0 where there is none.
+/// Returns the place of a member that none is less than; 0 if there is none.
 fn place_of_least(members: &[TxnId]) -> usize
     ensures within { result ≤ length members.now }
     ensures inside { 0 < length members.now → result < length members.now }

@@ -17,7 +17,7 @@ struct Step {
     txn: TxnId,
     /// The place of the first such edge.
     next: usize,
-    /// The place behind the last edge out of it.
+    /// The place after the last edge out of it.
     end: usize,
     /// 0, or one more than the greatest rank that the edges before `next` lead to.
     rank: u64,
@@ -65,7 +65,7 @@ impl<'a> Walk<'a> {
         ensures at_rest { IfOk result (λ walk. walk.path.items ≡ []) }
     {
         let unseen = txns_named(alloc, edges)?;
-        // No transaction stands on the path twice.
+        // No transaction is on the path twice.
         let path = Vec::with_capacity(alloc, unseen.len())?;
         Ok(Walk {
             alloc,
@@ -87,7 +87,7 @@ impl<'a> Walk<'a> {
         Ok(list)
     }
 
-    /// Ranks a transaction and all that it waits for, or answers a cycle.
+    /// Ranks a transaction and all that it waits for, or returns a cycle.
     pub(crate) fn visit(&mut self, root: TxnId) -> Result<Option<Vec<TxnId>>, Memory>
         requires in_order { AreInOrder self.old.edges.now }
         requires stands { Stands self.old [] }
@@ -136,7 +136,7 @@ impl<'a> Walk<'a> {
     }
 
     /// Passes the edges out of the last transaction on the path that lead to ranked ones, up to one
-    /// that does not, and tells where that one leads.
+    /// that does not, and returns where that one leads.
     fn advance(&self, top: &mut Step) -> Option<TxnId>
         requires { Stands self.now (self.now.path.items ++ top.old ∷ []) }
         ensures txn { top.new.txn ≡ top.old.txn }

@@ -1,11 +1,11 @@
--- What C is told beside the numbers of an answer.
+-- The parts of an answer in C besides its numbers.
 use Rattle.std.specs.Prelude.{◌≡◌, ◌==◌, ℕ, cond, List, [], ◌∷◌, map, Option, Some, None, slice_get, unwrap_or}
 use Rattle.ft_session.specs.declared.session.Session.{Session}
 use Rattle.ft_session.specs.Parts.{blockers_in}
 use Rattle.nuzolged.specs.declared.told.Told.{Told}
 use Rattle.nuzolged.specs.declared.answered.Answered.{Answered}
 
--- the transaction at a place, or 0 where there is none
+-- the transaction at a place, or 0 if there is none
 abbrev pub blocker_or_none : List ℕ → ℕ → ℕ
 blocker_or_none blockers index = unwrap_or (slice_get blockers index) 0
 
@@ -22,8 +22,8 @@ first_blockers (Some session) = first_of (blockers_in session.last)
 abbrev pub blockers_told : Told → Option Session → List ℕ
 blockers_told told session = cond (told.code == 1100) (first_blockers session) (first_of [])
 
--- The code is returned, the first blockers of a call that waits are told, and how many bytes its
--- reply has. What is reserved is 0.
+-- The code is returned. The answer has the first blockers of a call that waits, and how many bytes
+-- its reply has. Its reserved numbers are 0.
 abbrev pub IsToldWith : ℕ → Option Session → ℕ → Answered → Type 0
 IsToldWith reply session code answer =
     (code ≡ answer.told.code) × (answer.blockers ≡ blockers_told answer.told session) × (answer.reply ≡ reply) × (answer.reserved ≡ 0 ∷ 0 ∷ 0 ∷ 0 ∷ 0 ∷ 0 ∷ [])

@@ -1,4 +1,4 @@
--- What a request through a handle came to.
+-- The outcome of a request through a handle.
 use Rattle.std.specs.Prelude.{◌≡◌, ◌⊎◌, ◌||◌, ◌==◌, ℕ, ℤ, Bool, true, false, cond, List, Option, Some, None, Result, Ok, Err, suc, zero}
 use Rattle.ft_path.specs.Name.{has_nul}
 use Rattle.ft_cells.specs.declared.attributes.Timestamp.{Timestamp}
@@ -20,13 +20,13 @@ use Rattle.nuzolged.specs.declared.asking.Unasked.TheVariants as unasked
 use Rattle.nuzolged.specs.Cuts.{cut_path, cut_of, limits_in, AreAlike}
 use Rattle.nuzolged.specs.Numbers.{told_of_answer, closed, bad}
 
--- The handle is closed, and stays so. Or the core of its session has made one legal step for just
--- this request, and what is told is its answer.
+-- The handle is closed, and stays so. Or the core of its session has made one legal step for
+-- exactly this request, and what is told is its answer.
 abbrev pub IsAsked : Option Session → Request → Told → Option Session → Type 0
 IsAsked None request told new = (told ≡ closed) × (new ≡ None)
 IsAsked (Some old) request told new = (session : Session) × (answer : Answer) × (new ≡ Some session) × HasAnswered old request answer session × (told ≡ told_of_answer answer)
 
--- what the tree behind a handle allows
+-- the limits of the tree of a handle
 abbrev pub limits_of : Option Session → TreeLimits
 limits_of None = default_limits
 limits_of (Some session) = limits_in session.core.state
@@ -51,7 +51,7 @@ abbrev pub IsBad : Option Session → Told → Option Session → Type 0
 IsBad None told new = (told ≡ closed) × (new ≡ None)
 IsBad (Some old) told new = (told ≡ bad) × (new ≡ Some old)
 
--- a call in a transaction is asked for just where no argument is bad
+-- a call in a transaction is asked for exactly if no argument is bad
 abbrev pub IsCalled : Bool → Option Session → ℕ → Call → Told → Option Session → Type 0
 IsCalled is_bad old txn call told new = ((is_bad ≡ false) × IsCallAsked old txn call told new) ⊎ ((is_bad ≡ true) × IsBad old told new)
 

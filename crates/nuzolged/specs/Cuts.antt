@@ -1,6 +1,5 @@
--- What is cut from a call before it is made, which nobody can tell from what it answers: more of a
--- path than tells that it is too long, more bytes than could have room, and more of a mode than
--- tells that it is none.
+-- Cuts of a call before it is made, which its answer does not show: a path to the length at which
+-- it is too long, bytes to those that could have room, and a mode to the first number that is none.
 use Rattle.std.specs.Prelude.{◌≡◌, ℕ, ◌+◌, min, max, ℤ, pos, negsuc, List, take, map, option_map}
 use Rattle.std.specs.FinMap as finite
 use Rattle.ft_path.specs.declared.TheConstants.{LONGEST_PATH}
@@ -20,7 +19,7 @@ use Rattle.ft_replies.specs.declared.line.Report.{Report}
 use Rattle.ft_replies.specs.Lines.{IsReportText}
 
 -- one byte more of a path, or of the target of a symbolic link, than it may have: a longer one is
--- ENAMETOOLONG, whatever stands behind (POSIX.1-2017, System Interfaces, 2.3 and symlink)
+-- ENAMETOOLONG, whatever comes after (POSIX.1-2017, System Interfaces, 2.3 and symlink)
 abbrev pub cut_path : List ℕ → List ℕ
 cut_path path = take (LONGEST_PATH + 1) path
 
@@ -29,17 +28,17 @@ cut_path path = take (LONGEST_PATH + 1) path
 abbrev pub cut_mode : ℕ → ℕ
 cut_mode mode = min mode (MOST_MODE + 1)
 
--- how many bytes a file of the tree may have, or one where it may have none
+-- how many bytes a file of the tree may have, or one if it may have none
 abbrev pub most_of : TreeLimits → ℕ
 most_of limits = max 1 limits.file_size
 
--- as many bytes of a write as a file of the tree may have: where they go is known when it is
--- granted; and one where it may have none, since to write none is no error
+-- as many bytes of a write as a file of the tree may have: its place is known when it is granted;
+-- and one if it may have none, since to write none is no error
 abbrev pub cut_bytes : TreeLimits → List ℕ → List ℕ
 cut_bytes limits bytes = take (most_of limits) bytes
 
 -- as many bytes of a pwrite as have room at its place (POSIX.1-2017, System Interfaces, pwrite);
--- and one where none has, since to write none is no error
+-- and one if none has, since to write none is no error
 abbrev pub most_at : TreeLimits → ℤ → ℕ
 most_at limits (pos at) = max 1 (room_at limits.file_size at)
 most_at limits (negsuc n) = 1
@@ -89,7 +88,7 @@ cut_event limits (Abort t) = Abort t
 abbrev pub limits_in : State → TreeLimits
 limits_in s = s.base.tree.limits
 
--- Two states are the same, but for what could be cut from the calls that were made and from those
+-- Two states are the same, except what could be cut from the calls that were made and from those
 -- that wait.
 pub record AreAlike (s s' : State) : Type 0 where
   pub rule : s'.rule ≡ s.rule

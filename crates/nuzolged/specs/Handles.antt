@@ -1,4 +1,4 @@
--- What a handle owns.
+-- The session that a handle owns.
 use Rattle.std.specs.Prelude.{Option, Some, None}
 use mir.Syntax.{Ty}
 use base.Fml.{Fml, feq}

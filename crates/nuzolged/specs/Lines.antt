@@ -1,4 +1,4 @@
--- What a line through a handle came to, and its reply.
+-- The outcome of a line through a handle, and its reply.
 use Rattle.std.specs.Prelude.{◌≡◌, ◌⊎◌, ◌==◌, ◌||◌, ℕ, Bool, not, MatchBool, List, length, Option, Some, None}
 use Rattle.ft_replies.specs.declared.line.Line.{Line}
 use Rattle.ft_replies.specs.declared.line.Line.TheVariants.{Bad}
@@ -10,8 +10,8 @@ use Rattle.ft_session.specs.declared.session.Session.{Session}
 use Rattle.nuzolged.specs.declared.told.Told.{Told}
 use Rattle.nuzolged.specs.Numbers.{told_of, told_size, no_memory, closed, bad}
 
--- The line was carried out, and what it came to is told. Or nothing has changed: it asks for
--- nothing that there is, or there was no memory.
+-- The line was carried out, and the answer is its outcome. Or nothing has changed: it is not a
+-- valid request, or there was no memory.
 abbrev pub IsLineTold : Session → Line → Told → Session → Type 0
 IsLineTold old line told new = (IsCarriedOut old line new × (told ≡ told_of new.last)) ⊎ (IsSame old new × (((line ≡ Bad) × (told ≡ bad)) ⊎ (told ≡ no_memory)))
 

@@ -15,7 +15,7 @@ kind_number kind.Link = 3
 abbrev pub entry_of : (List ℕ × Kind) → List ℕ
 entry_of name = kind_number name.1 ∷ (name.0 ++ 0 ∷ [])
 
--- all names, one behind the other
+-- all names, one after the other
 abbrev pub listing : List (List ℕ × Kind) → List ℕ
 listing names = flat_map entry_of names
 
@@ -23,8 +23,8 @@ listing names = flat_map entry_of names
 abbrev pub size_of : List ℕ → ℕ
 size_of bytes = min 18446744073709551615 (length bytes)
 
--- Where a buffer has what was copied so far, and it is told how much that is, these bytes are copied
--- behind it, and it is told how much it is then.
+-- If a buffer has what was copied so far, and it is told how much that is, these bytes are
+-- copied after it, and it is told how much it is then.
 abbrev pub GoesOn : List ℕ → ℕ → List ℕ → ℕ → List ℕ → Type 0
 GoesOn bytes at old at' new =
     (done buffer : List ℕ) → at ≡ size_of done → old ≡ filled done buffer → (at' ≡ size_of (done ++ bytes)) × (new ≡ filled (done ++ bytes) buffer)

@@ -1,4 +1,4 @@
--- What is told of the locks of a transaction.
+-- The answer about the locks of a transaction.
 use Rattle.std.specs.Prelude.{◌≡◌, ◌⊎◌, ◌==◌, ℕ, List, [], ◌∷◌, ◌++◌, filter, length, Option, Some, None}
 use Rattle.ft_moss.specs.declared.line.LockLine.{LockLine}
 use Rattle.ft_core.specs.States.{State}
@@ -14,7 +14,7 @@ abbrev pub owned_by : ℕ → List LockLine → List LockLine
 owned_by txn locks = filter (λ lock. lock.owner == txn) locks
 
 -- the reports `locks` and `attributes` of a script (docs/SCRIPT.md), each with its line feed, of
--- just these locks
+-- exactly these locks
 abbrev pub text_of : List LockLine → List ℕ
 text_of locks = locks_text locks ++ 10 ∷ (attribute_locks_text locks ++ 10 ∷ [])
 

@@ -17,7 +17,7 @@ use Rattle.ft_session.specs.declared.last.Last.TheVariants as last
 use Rattle.nuzolged.specs.declared.told.Told.{Told}
 use Rattle.nuzolged.specs.Listing.{kind_number, listing, size_of}
 
--- what is told where no call has looked at a directory or file
+-- the answer if no call has looked at a directory or file
 abbrev pub told_of_none : ℕ → ℕ → ℕ → ℕ → ℕ → Told
 told_of_none code kind stamp number size = record {
   code = code;
@@ -54,7 +54,7 @@ no_memory = told 1001 0 0
 abbrev pub closed : Told
 closed = told 1200 0 0
 
--- an argument is none that there is
+-- an argument is not valid
 abbrev pub bad : Told
 bad = told 1201 0 0
 
@@ -75,7 +75,7 @@ errno_number errno.ENOTEMPTY = 39
 errno_number errno.ELOOP = 40
 errno_number errno.EOVERFLOW = 75
 
--- the numbers of refusals stand behind those of errors
+-- the numbers of refusals come after those of errors
 abbrev pub fault_number : Fault → ℕ
 fault_number fault.Memory = 1001
 fault_number fault.NoTxn = 1002
@@ -90,11 +90,11 @@ fault_number fault.NoAsk = 1010
 fault_number fault.NoViews = 1011
 fault_number fault.BadLimits = 1012
 
--- what is told for a time where there is none
+-- the time in an answer that has none
 abbrev pub epoch : Timestamp
 epoch = record { seconds = pos 0; nanoseconds = 0 }
 
--- what `stat` tells: the attributes also where they are those that one has anyway, and whether
+-- the answer of `stat`: the attributes even if they are those that one has anyway, and whether
 -- there is a time
 abbrev pub told_of_info : ℕ → Kind → ℕ → ℕ → ℕ → Attributes → Option Timestamp → Told
 told_of_info stamp kind number links size attributes time = record {
@@ -113,8 +113,8 @@ told_of_info stamp kind number links size attributes time = record {
 }
 
 -- a reply: its stamp, and code 0 with a number, with how many names there are and how many bytes
--- those have as C has them, with how many bytes there are, or with what `stat` tells; or the number
--- of its error
+-- those have as C has them, with how many bytes there are, or with the answer of `stat`; or the
+-- number of its error
 abbrev pub told_of_reply : ℕ → Reply → Told
 told_of_reply stamp Done = told 0 stamp 0
 told_of_reply stamp (Names names) = told_of_none 0 0 stamp (length names) (size_of (listing names))
@@ -135,7 +135,7 @@ told_of_answer (Undone stamp) = told 0 stamp 0
 told_of_answer Cleared = told 0 0 0
 told_of_answer (Refused fault) = told (fault_number fault) 0 0
 
--- what the last request came to
+-- the outcome of the last request
 abbrev pub told_of : Last → Told
 told_of (last.Answer answer) = told_of_answer answer
 told_of (last.Text text) = told_size (length text)

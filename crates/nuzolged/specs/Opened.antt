@@ -1,4 +1,4 @@
--- What an opened handle holds.
+-- The contents of an opened handle.
 use Rattle.std.specs.Prelude.{◌≡◌, ◌⊎◌, ◌==◌, ◌&&◌, ℕ, Bool, cond, true, nat_le, List, [], Option, Some, None, suc, zero, slice_index}
 use Rattle.ft_moss.specs.declared.rule.Rule.{Rule}
 use Rattle.ft_moss.specs.declared.rule.Rule.TheVariants.{Profile, Moss}
@@ -25,7 +25,7 @@ rule_of (suc (suc (suc (suc number)))) = None
 abbrev pub fair_of : ℕ → Bool
 fair_of number = nat_le 2 number
 
--- the limits that C gives but for those that are reserved
+-- the limits that C gives except those that are reserved
 abbrev pub plain_limits : Limits → CoreLimits
 plain_limits limits = record {
   file_size = limits.file_size;
@@ -39,7 +39,7 @@ plain_limits limits = record {
 abbrev pub is_zero : List ℕ → Bool
 is_zero reserved = slice_index reserved 0 == 0 && slice_index reserved 1 == 0 && slice_index reserved 2 == 0
 
--- the limits that C gives, as a core has them; none where a reserved one is not 0, which no core has
+-- the limits that C gives, as a core has them; none if a reserved one is not 0, which no core has
 abbrev pub limits_given : Limits → Option CoreLimits
 limits_given limits = cond (is_zero limits.reserved) (Some (plain_limits limits)) None
 
@@ -56,7 +56,7 @@ IsNew rule limits session = (are_within limits greatest_limits ≡ true) × (ses
 abbrev pub HasNew : Rule → CoreLimits → Handle → Type 0
 HasNew rule limits handle = (session : Session) × (handle.session ≡ Some session) × IsNew rule limits session
 
--- in its session calls wait behind older asks, or do not, and nobody has asked yet
+-- in its session calls wait behind older asks, or do not, and no transaction has asked yet
 abbrev pub HasTurns : Bool → Handle → Type 0
 HasTurns fair handle = (session : Session) × (handle.session ≡ Some session) × (session.is_fair ≡ fair) × (session.turns.items ≡ [])
 

@@ -1,4 +1,4 @@
--- What is told of the parts of the last answer.
+-- The parts of the last answer.
 use Rattle.std.specs.Prelude.{ℕ, List, length, Option, Some, None, slice_get}
 use Rattle.ft_cells.specs.declared.node.Kind.{Kind}
 use Rattle.ft_posix.specs.declared.call.Reply.{Reply}
@@ -15,7 +15,7 @@ use Rattle.nuzolged.specs.Numbers.{told, told_size, told_name, closed, bad}
 
 -- ---- a name of a list
 
--- its kind, and how many bytes it has; `bad` where there is none
+-- its kind, and how many bytes it has; `bad` if there is none
 abbrev pub named : Option (List ℕ × Kind) → Told
 named None = bad
 named (Some name) = told_name name.1 (length name.0)
@@ -45,7 +45,7 @@ name_bytes (Some session) index = name_bytes_at session.last index
 
 -- ---- a transaction for which a call waits
 
--- its number; `bad` where there is none
+-- its number; `bad` if there is none
 abbrev pub numbered : Option ℕ → Told
 numbered None = bad
 numbered (Some txn) = told 0 0 txn
@@ -72,12 +72,12 @@ abbrev pub data_answered : Answer → Option (List ℕ)
 data_answered (Granted stamp reply) = data_of reply
 data_answered other = None
 
--- the same of what the last request came to
+-- the same of the outcome of the last request
 abbrev pub data_in : Last → Option (List ℕ)
 data_in (last.Answer answer) = data_answered answer
 data_in (last.Text text) = None
 
--- how many there are; `bad` where there are none
+-- how many there are; `bad` if there are none
 abbrev pub data_count : Option (List ℕ) → Told
 data_count None = bad
 data_count (Some bytes) = told_size (size_of bytes)

@@ -1,4 +1,4 @@
--- What is told of who waits for whom.
+-- The answer about which transaction waits for which.
 use Rattle.std.specs.Prelude.{◌≡◌, ◌⊎◌, ℕ, List, [], length, Option, Some, None, MatchOption}
 use Rattle.std.specs.FinMap as finite
 use Rattle.ft_posix.specs.declared.call.Call.{Call}
@@ -16,7 +16,7 @@ use Rattle.ft_session.specs.Turns.{AreInTheWay}
 use Rattle.nuzolged.specs.declared.told.Told.{Told}
 use Rattle.nuzolged.specs.Numbers.{told as told_with, no_memory, closed, fault_number}
 
--- it is told how many transactions there are, and as many as have room are copied
+-- the answer has how many transactions there are, and as many as have room are copied
 abbrev pub AreTold : List ℕ → Told → List ℕ → List ℕ → Type 0
 AreTold txns told before after = (told ≡ told_with 0 0 (length txns)) × (after ≡ filled txns before)
 
@@ -24,8 +24,7 @@ AreTold txns told before after = (told ≡ told_with 0 0 (length txns)) × (afte
 abbrev pub IsToldAlone : Told → Told → List ℕ → List ℕ → Type 0
 IsToldAlone this told before after = (told ≡ this) × (after ≡ before)
 
--- The transactions in the way of the call that a transaction waits for are told; or there was no
--- memory.
+-- The blockers of the call that a transaction waits for are copied; or there was no memory.
 abbrev pub AreBlockers : Session → ℕ → Told → List ℕ → List ℕ → Type 0
 AreBlockers session txn told before after =
     ((call : Call) × (finite.get session.core.state.asks txn ≡ Some call) × (blockers : List ℕ) × AreInTheWay session.is_fair session.core.state session.turns.items txn blockers × AreTold blockers told before after)
@@ -46,7 +45,8 @@ abbrev pub members_of : Verdict → List ℕ
 members_of (Cycle members) = members
 members_of (Ranked ranks) = []
 
--- The cycle is told of a verdict on just the waits-for edges of the state; or there was no memory.
+-- The cycle is that of a verdict on exactly the waits-for edges of the state; or there was no
+-- memory.
 abbrev pub HasCycle : State → Told → List ℕ → List ℕ → Type 0
 HasCycle s told before after =
     ((edges : List Edge) × (verdict : Verdict) × AreEdgesOf s edges × IsVerdict edges verdict × AreTold (members_of verdict) told before after) ⊎ IsToldAlone no_memory told before after

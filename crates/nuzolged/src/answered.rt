@@ -1,4 +1,4 @@
-// What C is told.
+// Answers in C.
 ghost use Rattle.std.specs.Prelude.{◌≡◌};
 ghost use Rattle.nuzolged.specs.Answers.{IsTold, IsToldWith, first_blockers, first_of, blocker_or_none};
 
@@ -7,16 +7,16 @@ use crate::told::{Told, WAITS};
 use ft_core::TxnId;
 use std::alloc::Global;
 
-/// How many blockers an answer has room for.
+/// The number of blockers for which an answer has room.
 const BLOCKERS: usize = 8;
 
-/// What a request came to, with what belongs to it: `nuz_answer` of the header.
+/// The outcome of a request, with what belongs to it: `nuz_answer` of the header.
 ///
 /// It never gets larger: a member to come takes the place of a reserved one.
 #[repr(C)]
 #[derive(Clone, Copy, Debug, PartialEq, Eq)]
 pub struct Answered {
-    /// What the request came to, in numbers.
+    /// The outcome of the request, in numbers.
     pub told: Told,
     /// How many bytes the reply to a line has.
     pub reply: u64,
@@ -26,7 +26,7 @@ pub struct Answered {
     pub reserved: [u64; 6],
 }
 
-/// Tells what a request of a tree came to: the code is returned too.
+/// Reports the outcome of a request of a tree: the code is returned too.
 pub(crate) fn tell(alloc: Global, tree: &mut Handle, told: Told, answer: &mut Answered) -> u32
     ensures same { tree.new.session ≡ tree.old.session }
     ensures told { answer.new.told ≡ told }
@@ -90,7 +90,7 @@ fn first_of(blockers: &[TxnId]) -> [u64; BLOCKERS]
     ]
 }
 
-// A transaction of a list, or 0 where there is none.
+// A transaction of a list, or 0 if there is none.
 fn blocker_or_none(blockers: &[TxnId], index: usize) -> u64
     ensures { result ≡ blocker_or_none blockers.now index }
 {

@@ -20,11 +20,11 @@ use std::alloc::Global;
 pub(crate) enum Unasked {
     /// There was no memory for a copy of its path or of its bytes.
     Memory,
-    /// An argument is none that there is.
+    /// An argument is not valid.
     Bad,
 }
 
-/// Has the core of a handle carry a request out, and answers in numbers.
+/// Has the core of a handle carry a request out, and returns the answer in numbers.
 pub(crate) fn ask(alloc: Global, tree: &mut Handle, request: Request) -> Told
     ensures { IsAsked tree.old.session request result tree.new.session }
 {
@@ -40,8 +40,8 @@ pub(crate) fn ask(alloc: Global, tree: &mut Handle, request: Request) -> Told
     }
 }
 
-/// Has the core of a handle make the tree as it stands the base, and answers in numbers. Takes no
-/// memory.
+/// Has the core of a handle make the present tree the base, and returns the answer in numbers.
+/// Takes no memory.
 pub(crate) fn checkpoint(alloc: Global, tree: &mut Handle) -> Told
     ensures asked { IsAsked tree.old.session Checkpoint result tree.new.session }
     ensures memory { result ≢ no_memory }
@@ -79,7 +79,7 @@ pub(crate) fn refuse(alloc: Global, tree: &mut Handle, txn: u64) -> Told
     told
 }
 
-/// Answers that an argument is none that there is: nothing changes.
+/// Answers that an argument is not valid: nothing changes.
 pub(crate) fn bad_argument(alloc: Global, tree: &mut Handle) -> Told
     ensures { IsBad tree.old.session result tree.new.session }
 {
@@ -100,8 +100,8 @@ pub(crate) fn turn_away(alloc: Global, tree: &mut Handle, txn: u64, why: Unasked
     }
 }
 
-/// A path of these bytes. One that has a null byte is bad. A path that is too long is cut: no more
-/// of it is copied than tells so.
+/// Returns a path of these bytes. One that has a null byte is bad. A path that is too long is cut:
+/// only so much of it is copied that it is still too long.
 pub(crate) fn path_of(alloc: Global, bytes: &[u8]) -> Result<FilePath, Unasked>
     ensures { IsPath bytes.now result }
 {
@@ -116,7 +116,7 @@ pub(crate) fn path_of(alloc: Global, bytes: &[u8]) -> Result<FilePath, Unasked>
     }
 }
 
-/// Two paths of these bytes. They are bad where one of them has a null byte.
+/// Returns two paths of these bytes. They are bad if one of them has a null byte.
 pub(crate) fn paths_of(
     alloc: Global,
     from: &[u8],
@@ -131,7 +131,8 @@ pub(crate) fn paths_of(
     }
 }
 
-/// A mode of these bits. One above the largest stands for all that are.
+/// Returns a mode of these bits. Every number above the largest mode becomes the one after the
+/// largest.
 pub(crate) fn mode_of(bits: u32) -> u16
     ensures { result ≡ cut_mode bits }
 {
@@ -147,7 +148,7 @@ pub(crate) fn bytes_of(alloc: Global, bytes: &[u8], most: u64) -> Result<Sequenc
     Ok(Sequence::from(kept))
 }
 
-/// What the tree behind a handle allows; behind a closed one, what a tree does by default.
+/// Returns the limits of the tree of a handle; of a closed one, the default limits of a tree.
 pub(crate) fn limits_of(alloc: Global, tree: &mut Handle) -> TreeLimits
     ensures limits { result ≡ limits_of tree.old.session }
     ensures same { tree.new.session ≡ tree.old.session }
@@ -164,15 +165,16 @@ pub(crate) fn limits_of(alloc: Global, tree: &mut Handle) -> TreeLimits
     TreeLimits { file_size, links }
 }
 
-/// How many bytes of a write a file could have. Where it may have none, one is kept: to write none
-/// is no error.
+/// Returns how many bytes of a write a file could have. If it may have none, one is kept: to write
+/// none is no error.
 pub(crate) fn most_of(limits: TreeLimits) -> u64
     ensures { result ≡ most_of limits }
 {
     limits.file_size.max(1)
 }
 
-/// How many bytes could have room at a place. Where none has, one is kept, for the same reason.
+/// Returns how many bytes could have room at a place. If none has, one is kept, for the same
+/// reason.
 pub(crate) fn most_at(limits: TreeLimits, off: i64) -> u64
     ensures { result ≡ most_at limits off }
 {

@@ -51,7 +51,8 @@ pub extern "C" fn nuz_fchmod(
     tell(alloc, tree, told, answer)
 }
 
-/// Sets the owner and the group of a directory or file. The greatest number says that one stays.
+/// Sets the owner and the group of a directory or file. With the greatest number, the old one
+/// stays.
 #[unsafe(no_mangle)]
 pub extern "C" fn nuz_chown(
     alloc: Global,

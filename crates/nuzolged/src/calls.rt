@@ -31,7 +31,7 @@ pub extern "C" fn nuz_close(
     tell(alloc, tree, told, answer)
 }
 
-/// What a descriptor has open.
+/// Looks at what a descriptor has open.
 #[unsafe(no_mangle)]
 pub extern "C" fn nuz_fstat(
     alloc: Global,
@@ -64,7 +64,8 @@ pub extern "C" fn nuz_ftruncate(
     tell(alloc, tree, told, answer)
 }
 
-/// Sets an offset, which is told. `whence` is 0 for the start, 1 for the offset and 2 for the end.
+/// Sets an offset, which the answer holds. `whence` is 0 for the start, 1 for the offset and 2 for
+/// the end.
 #[unsafe(no_mangle)]
 pub extern "C" fn nuz_lseek(
     alloc: Global,
@@ -85,8 +86,8 @@ pub extern "C" fn nuz_lseek(
     tell(alloc, tree, told, answer)
 }
 
-/// Writes at the offset. How many bytes were written is told. No more are copied than a file may
-/// have.
+/// Writes at the offset. The answer holds how many bytes were written. No more are copied than a
+/// file may have.
 #[unsafe(no_mangle)]
 pub extern "C" fn nuz_write(
     alloc: Global,
@@ -107,7 +108,8 @@ pub extern "C" fn nuz_write(
     tell(alloc, tree, told, answer)
 }
 
-/// Writes at a place. How many bytes were written is told. No more are copied than have room there.
+/// Writes at a place. The answer holds how many bytes were written. No more are copied than have
+/// room there.
 #[unsafe(no_mangle)]
 pub extern "C" fn nuz_pwrite(
     alloc: Global,
@@ -129,8 +131,8 @@ pub extern "C" fn nuz_pwrite(
     tell(alloc, tree, told, answer)
 }
 
-/// Reads at the offset as many bytes as a buffer has room for. How many there were is told, and
-/// they stand at its front.
+/// Reads at the offset as many bytes as a buffer has room for. The answer holds how many there
+/// were, and they are at the front of the buffer.
 #[unsafe(no_mangle)]
 pub extern "C" fn nuz_read(
     alloc: Global,
@@ -150,8 +152,8 @@ pub extern "C" fn nuz_read(
     tell(alloc, tree, told, answer)
 }
 
-/// Reads at a place as many bytes as a buffer has room for. How many there were is told, and they
-/// stand at its front.
+/// Reads at a place as many bytes as a buffer has room for. The answer holds how many there were,
+/// and they are at the front of the buffer.
 #[unsafe(no_mangle)]
 pub extern "C" fn nuz_pread(
     alloc: Global,

@@ -7,10 +7,10 @@ use ft_tree::AccessMode;
 /// The bits of the access: those of `O_ACCMODE`.
 const ACCESS: u32 = 3;
 
-/// It makes the file where it is missing: `O_CREAT` of Linux.
+/// It makes the file if it is missing: `O_CREAT` of Linux.
 const CREATE: u32 = 0o100;
 
-/// The file has to be missing: `O_EXCL`.
+/// The file must be missing: `O_EXCL`.
 const EXCL: u32 = 0o200;
 
 /// It cuts the file to nothing: `O_TRUNC`.
@@ -32,7 +32,7 @@ pub(crate) struct Opening {
     pub(crate) append: bool,
 }
 
-/// What the flags of a word say, if they are those of an open.
+/// Returns the meaning of the flags of a word, if they are those of an open.
 pub(crate) fn opening_of(flags: u32) -> Option<Opening>
     ensures { result ≡ opening_of flags }
 {

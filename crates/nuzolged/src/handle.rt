@@ -1,4 +1,4 @@
-// What C holds of a session: its pointer.
+// A session in C: its pointer.
 ghost use Rattle.std.specs.Prelude.{◌≡◌, Option, Some, None, option_map};
 ghost use Rattle.std.specs.Coded.{coded_option};
 ghost use Rattle.std.specs.contracts.impls.GlobalAllocator.TheImpl.{ghosts};
@@ -46,7 +46,7 @@ impl Handle {
         }
     }
 
-    /// What it holds.
+    /// Returns its contents.
     fn into_loose(self) -> Option<Loose<Session, Global>>
         ensures { option_map (λ loose. loose.value) result ≡ self.session }
     {

@@ -20,16 +20,15 @@ pub fn pointer_crosses(tree: TreePointer) -> TreePointer
     crossed(tree)
 }
 
-/// What may go to another thread.
+/// Returns a value that may go to another thread.
 fn crossed<T: Send>(value: T) -> T
     ensures { result ≡ value }
 {
     value
 }
 
-/// What is cut from a call is unseen. The cut of a call is answered as the call itself, in a state
-/// that differs in no more than what was cut before; and so is all that is asked later, and each
-/// report.
+/// A cut of a call is unseen. The cut call is answered as the call itself, in a state that differs
+/// in no more than what was cut before; and so is every later request, and each report.
 pub fn cut_is_unseen()
     ensures { CutLaw }
 {}

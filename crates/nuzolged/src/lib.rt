@@ -1,7 +1,7 @@
 //! A tree inside a program, for C and for languages that call C: exported functions over a handle.
 //!
 //! `bindings/c/nuzolged.h` declares them, and says what the caller owes. A function carries out one
-//! request, and answers in numbers.
+//! request, and returns the answer in numbers.
 #![tactic(auto)]
 
 mod answered;

@@ -1,10 +1,10 @@
-// What a tree allows, as C gives it.
+// The limits of a tree, as C gives them.
 ghost use Rattle.std.specs.Prelude.{◌≡◌};
 ghost use Rattle.nuzolged.specs.Opened.{is_zero, limits_given};
 
 use ft_core::Limits as CoreLimits;
 
-/// What a tree allows: `nuz_limits` of the header.
+/// The limits of a tree: `nuz_limits` of the header.
 #[repr(C)]
 #[derive(Clone, Copy, Debug, PartialEq, Eq)]
 pub struct Limits {
@@ -12,7 +12,7 @@ pub struct Limits {
     pub file_size: u64,
     /// How many names a file may have.
     pub links: u64,
-    /// How deep a transaction may stand; one of the tree has depth 1.
+    /// How deep a transaction may be; one of the tree has depth 1.
     pub depth: u64,
     /// How many transactions may begin before a checkpoint.
     pub transactions: u64,

@@ -11,12 +11,12 @@ use ft_base::Memory;
 use ft_session::{Last, LineFault, Session};
 use std::alloc::Global;
 
-/// What is told for the length of a reply that there was no memory for.
+/// The length of a reply that there was no memory for.
 const UNTOLD: u64 = u64::MAX;
 
 /// Carries out one line of a script, without its line feed. A request is answered as by its own
-/// function; a report, and a line that asks for nothing, by 0 and the length of the reply. It is
-/// told too how many bytes the reply has, and as many as have room are copied.
+/// function; a report, and a line that is not a valid request, by 0 and the length of the reply.
+/// The answer also holds how many bytes the reply has, and as many as have room are copied.
 #[unsafe(no_mangle)]
 pub extern "C" fn nuz_request(
     alloc: Global,
@@ -34,8 +34,8 @@ pub extern "C" fn nuz_request(
     tell_with(alloc, tree, told, reply, answer)
 }
 
-/// The reply to the last request, as a script shows it: how many bytes it has is told, and as many
-/// as have room are copied.
+/// Copies the reply to the last request, as a script shows it. The answer holds how many bytes it
+/// has, and as many as have room are copied.
 #[unsafe(no_mangle)]
 pub extern "C" fn nuz_reply(
     alloc: Global,
@@ -102,7 +102,7 @@ fn size_of_reply(alloc: Global, last: &Last, buffer: &mut [u8]) -> u64
     }
 }
 
-// Copies the reply to the last request, and tells how many bytes it has.
+// Copies the reply to the last request, and returns how many bytes it has.
 fn copy_reply(alloc: Global, tree: &mut Handle, buffer: &mut [u8]) -> Told
     ensures same { tree.new.session ≡ tree.old.session }
     ensures reply { IsReplied tree.old.session result buffer.old buffer.new }

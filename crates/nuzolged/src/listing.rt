@@ -7,8 +7,8 @@ use ft_path::Name;
 use ft_session::copy_into;
 use ft_tree::Kind;
 
-/// Copies names into a buffer, each with its kind before it and a null byte behind it, as far as
-/// they have room: how many bytes they have in all.
+/// Copies names into a buffer, each with its kind before it and a null byte after it, as far as
+/// they have room. Returns how many bytes they have in all.
 pub(crate) fn copy_listing(names: &[(Name, Kind)], buffer: &mut [u8]) -> usize
     ensures size { result ≡ size_of (listing names.now) }
     ensures bytes { buffer.new ≡ filled (listing names.now) buffer.old }
@@ -32,7 +32,7 @@ pub(crate) fn listing_size(names: &[(Name, Kind)]) -> u64
     size
 }
 
-// Copies a name behind what has been copied: how many bytes that is.
+// Copies a name after what has been copied: how many bytes that is.
 fn copy_entry(name: &Name, kind: Kind, buffer: &mut [u8], at: usize) -> usize
     ensures { GoesOn (entry_of (name.now, kind)) at buffer.old result buffer.new }
 {
@@ -41,7 +41,7 @@ fn copy_entry(name: &Name, kind: Kind, buffer: &mut [u8], at: usize) -> usize
     copy_behind(&[0], buffer, at)
 }
 
-// Copies bytes behind what has been copied: how many bytes that is.
+// Copies bytes after what has been copied: how many bytes that is.
 fn copy_behind(bytes: &[u8], buffer: &mut [u8], at: usize) -> usize
     ensures { GoesOn bytes.now at buffer.old result buffer.new }
 {

@@ -12,8 +12,8 @@ use ft_replies::{AttributeLocksText, LocksText};
 use ft_session::copy_into;
 use std::alloc::Global;
 
-/// The locks of a transaction, as the reports of a script tell them: how many bytes the text has is
-/// told, and as many as have room are copied.
+/// Copies the locks of a transaction, as the reports of a script list them. The answer holds how
+/// many bytes the text has, and as many as have room are copied.
 #[unsafe(no_mangle)]
 pub extern "C" fn nuz_locks(
     alloc: Global,

@@ -13,8 +13,8 @@ use ft_core::Answer;
 use ft_session::{Last, copy_into};
 use std::alloc::Global;
 
-/// A name of the list that the last call has answered, counted from 0: its kind and its length are
-/// told, and as much of it as has room is copied.
+/// Copies a name of the list that the last call has returned, counted from 0. The answer holds its
+/// kind and its length, and as much of it as has room is copied.
 #[unsafe(no_mangle)]
 pub extern "C" fn nuz_name(
     alloc: Global,
@@ -48,8 +48,8 @@ pub extern "C" fn nuz_blocker(
     tell(alloc, tree, told, answer)
 }
 
-/// The bytes that the last call has read, or the names that it lists: how many bytes there are is
-/// told, and as many as have room are copied.
+/// Copies the bytes that the last call has read, or the names that it lists. The answer holds how
+/// many bytes there are, and as many as have room are copied.
 #[unsafe(no_mangle)]
 pub extern "C" fn nuz_bytes(
     alloc: Global,
@@ -66,7 +66,7 @@ pub extern "C" fn nuz_bytes(
     tell(alloc, tree, told, answer)
 }
 
-/// Copies the bytes that the last call has read, or the names that it lists, and tells how many
+/// Copies the bytes that the last call has read, or the names that it lists, and returns how many
 /// bytes there are.
 pub(crate) fn copy_data(alloc: Global, tree: &mut Handle, buffer: &mut [u8]) -> Told
     ensures same { tree.new.session ≡ tree.old.session }
@@ -83,7 +83,7 @@ pub(crate) fn copy_data(alloc: Global, tree: &mut Handle, buffer: &mut [u8]) -> 
     }
 }
 
-// Copies a name of the list, and tells of it.
+// Copies a name of the list, and returns its kind and its length.
 fn copy_name(alloc: Global, tree: &mut Handle, index: usize, buffer: &mut [u8]) -> Told
     ensures same { tree.new.session ≡ tree.old.session }
     ensures told { result ≡ name_told tree.old.session index }

@@ -61,7 +61,7 @@ pub extern "C" fn nuz_rmdir(
     tell(alloc, tree, told, answer)
 }
 
-/// Counts the names of a directory; `nuz_name` tells each.
+/// Counts the names of a directory; `nuz_name` returns each.
 #[unsafe(no_mangle)]
 pub extern "C" fn nuz_list(
     alloc: Global,
@@ -80,9 +80,9 @@ pub extern "C" fn nuz_list(
     tell(alloc, tree, told, answer)
 }
 
-/// Lists the names of a directory: how many there are is told, and how many bytes they have in a
-/// buffer, with the kind of each and a null byte behind it, of which as many as have room stand
-/// there.
+/// Lists the names of a directory. The answer holds how many there are, and how many bytes they
+/// have in a buffer, with the kind of each before it and a null byte after it. As many of these
+/// bytes as have room are in the buffer.
 #[unsafe(no_mangle)]
 pub extern "C" fn nuz_list_all(
     alloc: Global,
@@ -100,7 +100,7 @@ pub extern "C" fn nuz_list_all(
     tell(alloc, tree, told, answer)
 }
 
-/// What a path leads to. A last symbolic link is followed.
+/// Looks at what a path leads to. A last symbolic link is followed.
 #[unsafe(no_mangle)]
 pub extern "C" fn nuz_stat(
     alloc: Global,
@@ -218,8 +218,8 @@ pub extern "C" fn nuz_symlink(
     tell(alloc, tree, told, answer)
 }
 
-/// Reads the target of a symbolic link. How many bytes it has is told, and as many as a buffer has
-/// room for stand at its front.
+/// Reads the target of a symbolic link. The answer holds how many bytes it has, and as many as a
+/// buffer has room for are at its front.
 #[unsafe(no_mangle)]
 pub extern "C" fn nuz_readlink(
     alloc: Global,
@@ -237,7 +237,7 @@ pub extern "C" fn nuz_readlink(
     tell(alloc, tree, told, answer)
 }
 
-/// What a path leads to. A last symbolic link is told itself.
+/// Looks at what a path leads to. A last symbolic link is not followed.
 #[unsafe(no_mangle)]
 pub extern "C" fn nuz_lstat(
     alloc: Global,
@@ -256,8 +256,8 @@ pub extern "C" fn nuz_lstat(
     tell(alloc, tree, told, answer)
 }
 
-/// Opens a file, whose descriptor is told, by the flags of a word. A file that is made has a mode
-/// if one is given.
+/// Opens a file by the flags of a word. The answer holds its descriptor. A file that is made has a
+/// mode if one is given.
 #[unsafe(no_mangle)]
 pub extern "C" fn nuz_open(
     alloc: Global,
@@ -278,7 +278,7 @@ pub extern "C" fn nuz_open(
     tell(alloc, tree, told, answer)
 }
 
-// What is read of a path into a buffer.
+// A kind of read of a path into a buffer.
 #[derive(Clone, Copy, Debug, PartialEq, Eq)]
 enum Reads {
     // The names of a directory.

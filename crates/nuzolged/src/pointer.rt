@@ -1,4 +1,4 @@
-// What C has of a handle: its pointer.
+// A handle in C: its pointer.
 ghost use Rattle.std.specs.Prelude.{◌≡◌, Option, Some, None, option_map};
 ghost use Rattle.std.specs.Coded.{coded_option};
 ghost use Rattle.std.specs.contracts.impls.GlobalAllocator.TheImpl.{ghosts};
@@ -45,7 +45,7 @@ impl TreePointer {
         }
     }
 
-    /// What it leads to.
+    /// Returns the handle to which it leads.
     fn into_loose(self) -> Option<Loose<Handle, Global>>
         ensures { option_map (λ loose. loose.value) result ≡ self.tree }
     {

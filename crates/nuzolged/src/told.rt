@@ -16,29 +16,29 @@ pub(crate) const MEMORY: u32 = 1001;
 /// A limit is above the greatest.
 pub(crate) const BAD_LIMITS: u32 = 1012;
 
-/// The call has to wait.
+/// The call must wait.
 pub(crate) const WAITS: u32 = 1100;
 
 /// The handle holds no tree.
 pub(crate) const CLOSED: u32 = 1200;
 
-/// An argument is none that there is.
+/// An argument is not valid.
 pub(crate) const BAD: u32 = 1201;
 
-/// What is told for a time where there is none.
+/// The time in an answer that has none.
 const EPOCH: Timestamp = Timestamp {
     seconds: 0,
     nanoseconds: 0,
 };
 
-/// What a request came to, in numbers: what `nuz_answer` of the header begins with.
+/// The outcome of a request, in numbers: the members with which `nuz_answer` of the header begins.
 #[repr(C)]
 #[derive(Clone, Copy, Debug, PartialEq, Eq)]
 pub struct Told {
-    /// 0 where it is done; the error number of a call that failed; 1000 and the number of a
-    /// refusal; or a code of its own: the call waits, the handle is closed, an argument is bad.
+    /// 0 if it is done; the error number of a call that failed; 1000 and the number of a refusal;
+    /// or a code of its own: the call waits, the handle is closed, an argument is bad.
     pub code: u32,
-    /// What a name leads to: 1 a directory, 2 a file, 3 a symbolic link. Else 0.
+    /// The kind of what a name leads to: 1 a directory, 2 a file, 3 a symbolic link. Else 0.
     pub kind: u32,
     /// The stamp of a call that was granted, also of one that failed.
     pub stamp: u64,
@@ -58,7 +58,7 @@ pub struct Told {
     pub has_time: bool,
     /// The seconds of that time.
     pub seconds: i64,
-    /// The nanoseconds beside them.
+    /// The nanoseconds of that time.
     pub nanoseconds: u32,
 }
 
@@ -104,7 +104,7 @@ impl Told {
     }
 }
 
-/// What the last request came to, in numbers.
+/// Returns the outcome of the last request, in numbers.
 pub(crate) fn told_of(last: &Last) -> Told
     ensures { result ≡ told_of last.now }
 {
@@ -184,7 +184,7 @@ fn kind_number(kind: Kind) -> u32
     }
 }
 
-/// The number of a refusal: they stand behind those of errors.
+/// Returns the number of a refusal: they come after those of errors.
 pub(crate) fn fault_number(fault: Fault) -> u32
     ensures { result ≡ fault_number fault }
 {

@@ -14,7 +14,7 @@ use crate::parts::copy_data;
 use ft_core::{Request, TxnId};
 use std::alloc::Global;
 
-/// Begins a transaction, whose number is told.
+/// Begins a transaction. The answer holds its number.
 #[unsafe(no_mangle)]
 pub extern "C" fn nuz_begin(alloc: Global, tree: &mut Handle, answer: &mut Answered) -> u32
     ensures asked { IsAsked tree.old.session Begin answer.new.told tree.new.session }
@@ -24,7 +24,7 @@ pub extern "C" fn nuz_begin(alloc: Global, tree: &mut Handle, answer: &mut Answe
     tell(alloc, tree, told, answer)
 }
 
-/// Begins a subtransaction, whose number is told.
+/// Begins a subtransaction. The answer holds its number.
 #[unsafe(no_mangle)]
 pub extern "C" fn nuz_begin_sub(
     alloc: Global,
@@ -54,7 +54,8 @@ pub extern "C" fn nuz_commit(
     tell(alloc, tree, told, answer)
 }
 
-/// Aborts a transaction with all that is live below it. How many calls were taken back is told.
+/// Aborts a transaction with all that is live below it. The answer holds how many calls were
+/// undone.
 #[unsafe(no_mangle)]
 pub extern "C" fn nuz_abort(
     alloc: Global,
@@ -69,7 +70,7 @@ pub extern "C" fn nuz_abort(
     tell(alloc, tree, told, answer)
 }
 
-/// Takes back the last of a transaction's own calls that stand, whose stamp is told. It may be one
+/// Undoes the last of a transaction's own standing calls. The answer holds its stamp. It may be one
 /// that only looked, or that failed.
 #[unsafe(no_mangle)]
 pub extern "C" fn nuz_undo(alloc: Global, tree: &mut Handle, txn: u64, answer: &mut Answered) -> u32
@@ -95,8 +96,8 @@ pub extern "C" fn nuz_cancel(
     tell(alloc, tree, told, answer)
 }
 
-/// Makes the call that a transaction waits for. What that call answers is told, and the bytes that
-/// it has read, or the names that it lists, stand at the front of a buffer.
+/// Makes the call that a transaction waits for. The answer is that of the call, and the bytes that
+/// it has read, or the names that it lists, are at the front of a buffer.
 #[unsafe(no_mangle)]
 pub extern "C" fn nuz_retry(
     alloc: Global,
@@ -114,7 +115,7 @@ pub extern "C" fn nuz_retry(
     tell(alloc, tree, told, answer)
 }
 
-/// Makes the tree as it stands the base, and forgets the transactions. Takes no memory.
+/// Makes the present tree the base, and forgets the transactions. Takes no memory.
 #[unsafe(no_mangle)]
 pub extern "C" fn nuz_checkpoint(alloc: Global, tree: &mut Handle, answer: &mut Answered) -> u32
     ensures asked { IsAsked tree.old.session Checkpoint answer.new.told tree.new.session }

@@ -23,10 +23,11 @@ pub extern "C" fn nuz_version() -> u32
     1000
 }
 
-/// Opens a tree: the root alone, and no transaction. `options` is 0 for the rule of this project
-/// and 1 for Moss's; with 2 more calls wait behind older asks. Its limits are the greatest.
+/// Opens a tree: only the root, and no transaction. `options` is 0 for the rule of this project and
+/// 1 for Moss's; with 2 more, calls wait behind older asks. Its limits are the greatest.
 ///
-/// Answers 0; 1001 for want of memory; 1201 if there are no such options. Then the pointer is null.
+/// Returns 0; 1001 if there is not enough memory; 1201 if there are no such options. Unless it
+/// returns 0, the pointer is null.
 #[unsafe(no_mangle)]
 pub extern "C" fn nuz_tree_open(alloc: Global, tree: &mut TreePointer, options: u32) -> u32
     ensures opened { IsOpened (rule_of options) (Some greatest_limits) result tree.new.tree }
@@ -35,7 +36,7 @@ pub extern "C" fn nuz_tree_open(alloc: Global, tree: &mut TreePointer, options: 
     open(alloc, tree, options, Some(CoreLimits::greatest()))
 }
 
-/// Opens a tree with these limits, as `nuz_tree_open` else does. Answers 1012 too, where there are
+/// Opens a tree with these limits, as `nuz_tree_open` else does. Also returns 1012, if there are
 /// such options and one of the limits is above the greatest.
 #[unsafe(no_mangle)]
 pub extern "C" fn nuz_tree_open_with(
@@ -50,7 +51,7 @@ pub extern "C" fn nuz_tree_open_with(
     open(alloc, tree, options, limits_given(limits))
 }
 
-/// Mixes a number into the hashes by which the tree finds names, as `Core::seed` says. A closed
+/// Mixes a number into the hashes by which the tree finds names, as `Core::seed` does. A closed
 /// handle stays so.
 #[unsafe(no_mangle)]
 pub extern "C" fn nuz_tree_seed(alloc: Global, tree: &mut Handle, seed: u64)
@@ -98,7 +99,7 @@ fn open(alloc: Global, tree: &mut TreePointer, options: u32, limits: Option<Core
     }
 }
 
-// A handle of a new tree; else the code that says why there is none.
+// A handle of a new tree; else the code of the reason why there is none.
 fn new_tree(alloc: Global, options: u32, limits: Option<CoreLimits>) -> Result<Box<Handle>, u32>
     ensures new { IfOk result (λ handle. IsOpened (rule_of options) limits 0 (Some handle.value)) }
     ensures turns { IfOk result (λ handle. HasTurns (fair_of options) handle.value) }

@@ -12,8 +12,8 @@ use ft_session::Session;
 use ft_waits::{Verdict, judged_edges};
 use std::alloc::Global;
 
-/// The transactions for which a transaction waits now: how many there are is told, and as many as
-/// have room are copied.
+/// Copies the transactions for which a transaction waits now. The answer holds how many there are,
+/// and as many as have room are copied.
 #[unsafe(no_mangle)]
 pub extern "C" fn nuz_blockers(
     alloc: Global,
@@ -30,8 +30,8 @@ pub extern "C" fn nuz_blockers(
     tell(alloc, tree, told, answer)
 }
 
-/// The transactions of a deadlock, if there is one: how many there are is told, and as many as have
-/// room are copied.
+/// Copies the transactions of a deadlock, if there is one. The answer holds how many there are, and
+/// as many as have room are copied.
 #[unsafe(no_mangle)]
 pub extern "C" fn nuz_cycle(
     alloc: Global,
@@ -110,7 +110,7 @@ fn members_of(verdict: &Verdict) -> &[TxnId]
     }
 }
 
-// Copies the numbers of transactions, as many as have room, and tells how many there are.
+// Copies the numbers of transactions, as many as have room, and returns how many there are.
 fn tell_txns(list: &[TxnId], txns: &mut [u64]) -> Told
     ensures { AreTold list.now result txns.old txns.new }
 {

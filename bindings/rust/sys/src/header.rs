@@ -188,7 +188,7 @@ pub struct nuz_copy_failure {
     pub on_disk: bool,
     /// at `NUZ_WAITS`, with no around: the first blocking transaction
     pub waits_for: u64,
-    /// where the copy was on the disk,
+    /// the place of the copy on the disk,
     pub disk: [c_char; NUZ_COPY_ROOM as usize],
     /// and in the tree; as much of each as has room
     pub path: [c_char; NUZ_COPY_ROOM as usize],
@@ -749,7 +749,7 @@ extern "C" {
     /// missing directory of the tree is made. Existing directories keep their modes and owners. However,
     /// the root of an empty tree gets those of disk, unless it has been given others. An existing file
     /// or link is EEXIST. If the copy fails, what it has made stays. If memory runs out, a descriptor
-    /// may stay too. So give the copy a txn of its own, whose abort removes all of it.
+    /// may stay too. Give the copy a txn of its own, whose abort removes all of it.
     ///
     /// Returns 0; an errno of the system, or of the tree; a refusal; `NUZ_WAITS`, with the call forgotten;
     /// or `NUZ_BAD` if path has a null byte. ENOTSUP: something is neither a file, a directory nor a
@@ -782,7 +782,7 @@ extern "C" {
     /// it gets another owner or group than it has in the tree. Files that have no time in the tree get
     /// that of the copy, which is the same for all of them.
     ///
-    /// An existing directory has to be empty, or is ENOTEMPTY. With `NUZ_COPY_REPLACE` any directory may
+    /// An existing directory must be empty, or is ENOTEMPTY. With `NUZ_COPY_REPLACE` any directory may
     /// exist, but no symbolic link. It is exchanged with the copy at once, and removed. If the file
     /// system can't exchange two names, the existing directory is renamed first. Then for a moment
     /// nothing has its name. With `NUZ_COPY_SYNC` the copy is whole or nothing even if the power fails.

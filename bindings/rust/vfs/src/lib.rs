@@ -11,9 +11,9 @@ use vfs::{VfsError, VfsFileType, VfsMetadata, VfsResult};
 
 /// The file system of a transaction. Each clone is of the same transaction.
 ///
-/// It has its transaction with others, and so does each file that it opens. The transaction can be
-/// committed when nobody else has it: by [`Arc::try_unwrap`]. It is aborted when the last one drops
-/// it.
+/// It shares its transaction with others, and so does each file that it opens. The transaction can
+/// be committed when nobody else has it: by [`Arc::try_unwrap`]. It is aborted when its last owner
+/// drops it.
 #[derive(Clone, Debug)]
 pub struct TransactionFS {
     transaction: Arc<Transaction<Shared>>,
