@@ -95,7 +95,8 @@ class Tree:
 
     def request(self, line: str) -> str:
         """Carries out one line of a script without waiting, and returns the text of the reply. The
-        line may also be a report, such as `tree`, `locks` or `waits`.
+        line may also be a report, such as `tree`, `locks` or `waits`. A call that has to wait is
+        kept until a line drops it, and others may wait behind it.
 
         Raises:
             ValueError: It is not a line of a script.

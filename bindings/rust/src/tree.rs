@@ -211,7 +211,8 @@ impl Shared {
 
     /// Carries out one line of a script without waiting, and returns the text of the reply. The
     /// line may also be a report, such as `tree`, `locks` or `waits`. A line may end a transaction
-    /// of which somebody has a [`Transaction`]: its requests are then refused.
+    /// of which somebody has a [`Transaction`]: its requests are then refused. A call that has to
+    /// wait is kept until a line drops it, and others may wait behind it.
     ///
     /// # Errors
     ///
