@@ -138,8 +138,8 @@ typedef struct nuz_limits {
 /* The options of a tree, combined in one number. A call waits if a transaction that is neither the
  * caller nor above it has a conflicting lock. With NUZ_MOSS the call also waits for a transaction
  * above the caller that holds such a lock itself. It does not wait for one that only keeps the lock
- * for a committed transaction below it. */
-enum { NUZ_RELAXED = 0, NUZ_MOSS = 1 };
+ * for a committed transaction below it. With NUZ_FAIR calls wait in turn, as nuz_tree_fair says. */
+enum { NUZ_RELAXED = 0, NUZ_MOSS = 1, NUZ_FAIR = 2 };
 
 /* The flags of nuz_open, combined in one number: one of the first three, and any of the others.
  * They are those of fcntl.h as Linux numbers them. */
@@ -199,7 +199,7 @@ uint32_t nuz_version(void);
  * Returns 0, or NUZ_BAD if an option is not valid, or NUZ_MEMORY.
  * @param tree receives the tree, which the caller closes, or null if there is none. Its previous
  * value does not matter
- * @param options NUZ_MOSS, or 0 */
+ * @param options any of NUZ_MOSS and NUZ_FAIR, or 0 */
 uint32_t nuz_tree_open(nuz_tree **tree, uint32_t options);
 
 /** The same with these limits, which last, even through checkpoints. Also returns NUZ_BAD_LIMITS if
@@ -212,6 +212,20 @@ uint32_t nuz_tree_open_with(nuz_tree **tree, uint32_t options, const nuz_limits 
  * after the tree was opened. Pass a number from getrandom(2) or the like. Without this call the
  * number is 0. The function changes no answer, and takes no memory. */
 void nuz_tree_seed(nuz_tree *tree, uint64_t seed);
+
+/** Sets whether calls wait in turn from here on. If they do, a call that no lock blocks also waits
+ * for each transaction whose waiting call is older and conflicts with it. So a call that writes is
+ * not passed by one reader after another. A call never waits in turn for the caller, for a
+ * transaction above or below it, or for one that waits for the caller, directly or through others.
+ * If an older one comes to wait for the caller, the next nuz_retry of the caller no longer waits
+ * for that one. So to wait in turn closes no deadlock.
+ *
+ * A call is as old as its first request that had to wait. It stays so if its transaction retries it
+ * or makes the same call again. Another call of the transaction is new. A waiting call that nobody
+ * retries holds others back, so forget it by nuz_cancel. While calls wait, another one takes time
+ * and memory for all waits of the tree. The function itself takes no memory.
+ * @param is_fair whether calls wait in turn */
+void nuz_tree_fair(nuz_tree *tree, bool is_fair);
 
 /** Frees a tree with all its transactions, even live ones. If tree is null, it does nothing. */
 void nuz_tree_close(nuz_tree *tree);
@@ -481,9 +495,10 @@ uint32_t nuz_futime(nuz_tree *tree, uint64_t txn, uint64_t fd, int64_t seconds,
 
 /* ---- who waits for whom */
 
-/** Lists the transactions for which txn waits now, in ascending order: number is how many. If there
- * are none any more, nuz_retry makes the call. As many numbers as have room are copied. The
- * function changes nothing, and the last answer stays. Refused as nuz_retry is: NUZ_NO_TXN,
+/** Lists the transactions for which txn waits now, in ascending order: number is how many. They
+ * have a lock that blocks the call. If none has, and calls wait in turn, they have an older call.
+ * If there are none any more, nuz_retry makes the call. As many numbers as have room are copied.
+ * The function changes nothing, and the last answer stays. Refused as nuz_retry is: NUZ_NO_TXN,
  * NUZ_ENDED, NUZ_NO_ASK, NUZ_FULL, NUZ_MEMORY.
  * @param txns where their numbers go
  * @param room how many numbers it has room for */
@@ -492,10 +507,11 @@ uint32_t nuz_blockers(nuz_tree *tree, uint64_t txn, uint64_t *txns, size_t room,
 
 /** Finds a deadlock, if there is one. In a deadlock each transaction waits for the next, and the
  * last for the first. Each one waits for a lock, or because the next is a live subtransaction of
- * it. number is how many transactions there are, and 0 exactly if there is no deadlock. The least
- * comes first. If there are several deadlocks, it is left open which one is returned. As many
- * numbers as have room are copied. The function changes nothing, and the last answer stays. It
- * takes time and memory for all waits of the tree. Refused: NUZ_MEMORY.
+ * it. (To wait in turn is part of no deadlock, as nuz_tree_fair says.) number is how many
+ * transactions there are, and 0 exactly if there is no deadlock. The least comes first. If there
+ * are several deadlocks, it is left open which one is returned. As many numbers as have room are
+ * copied. The function changes nothing, and the last answer stays. It takes time and memory for all
+ * waits of the tree. Refused: NUZ_MEMORY.
  * @param txns where their numbers go
  * @param room how many numbers it has room for */
 uint32_t nuz_cycle(nuz_tree *tree, uint64_t *txns, size_t room, nuz_answer *answer);

@@ -1,5 +1,5 @@
 /* A tree that threads share, as nuzolged_shared.h says: a lock, and a condition that a transaction
- * has ended. */
+ * has ended, or waits no longer. */
 #define _POSIX_C_SOURCE 200809L /* for the clock of a condition */
 
 #include <nuzolged_cycle.h>
@@ -54,6 +54,7 @@ uint32_t nuz_shared_open(nuz_shared **shared, nuz_tree *tree) {
         return NUZ_MEMORY;
     }
     (*shared)->tree = tree;
+    nuz_tree_fair(tree, true);
     return 0;
 }
 
@@ -81,7 +82,8 @@ static uint64_t now(void) {
     return (uint64_t)time.tv_sec * 1000 + (uint64_t)time.tv_nsec / 1000000;
 }
 
-/* Sleeps until a transaction has ended, but no longer than to that time, or for a pause. */
+/* Sleeps until a transaction has ended or waits no longer, but at most to that time, or for a
+ * pause. */
 static void nap(nuz_shared *shared, uint64_t begun, uint64_t end) {
     uint64_t woken = end - begun < MOST_PAUSE ? end : begun + MOST_PAUSE;
     struct timespec time = { (time_t)(woken / 1000), (long)(woken % 1000) * 1000000 };
@@ -102,6 +104,7 @@ static bool is_dead(nuz_shared *shared, const call *call) {
     return true;
 }
 
+/* Forgets a call, for which others may have waited in turn. */
 static void forget(nuz_shared *shared, const call *call) {
     nuz_answer cancelled;
     nuz_cancel(shared->tree, call->txn, &cancelled);
@@ -131,6 +134,9 @@ static uint32_t waited(nuz_shared *shared, const call *call, uint32_t millisecon
         }
         nap(shared, begun, end);
         code = make_again(shared, call);
+    }
+    if (code >= NUZ_MEMORY) {
+        forget(shared, call);
     }
     return code;
 }

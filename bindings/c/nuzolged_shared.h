@@ -35,8 +35,9 @@ typedef struct nuz_shared_copy {
     uint32_t milliseconds; /* how long each request waits, or NUZ_FOREVER */
 } nuz_shared_copy;
 
-/** Shares a tree. From here on only the shared tree uses it, and closes it. Returns 0, or
- * NUZ_MEMORY: then nothing has changed.
+/** Shares a tree. From here on only the shared tree uses it, and closes it. Calls wait in turn, as
+ * nuz_tree_fair says. To let them pass older ones, call nuz_tree_fair with the tree that
+ * nuz_shared_lock returns. Returns 0, or NUZ_MEMORY: then nothing has changed.
  * @param shared receives the shared tree, which the caller closes, or null
  * @param tree an open tree */
 uint32_t nuz_shared_open(nuz_shared **shared, nuz_tree *tree);
@@ -53,19 +54,20 @@ void nuz_shared_unlock(nuz_shared *shared);
 
 /** Waits for the call that txn has just made, if its code is NUZ_WAITS, and returns what the call
  * returns in the end. The thread has the lock, which is free while the thread sleeps. The call is
- * made again when a transaction has ended, and every 50 milliseconds. The data that it reads or
- * lists goes to buffer, as with nuz_retry.
+ * made again when a transaction has ended or another waiting call is forgotten, and every 50
+ * milliseconds. The data that it reads or lists goes to buffer, as with nuz_retry.
  *
  * If the call would wait forever, EDEADLK is returned at once: the transactions in blockers wait
  * for each other, and txn comes first. number is how many there are. No call returns EDEADLK
- * itself. If the time is over, NUZ_WAITS is returned. In both cases the call is forgotten.
+ * itself. If the time is over, NUZ_WAITS is returned. In both cases the call is forgotten, and so it
+ * is if it is refused while it waits.
  * @param milliseconds how long it waits at most, or NUZ_FOREVER
  * @param answer the answer of the call, which is replaced by that of the last one */
 uint32_t nuz_shared_wait(nuz_shared *shared, uint64_t txn, uint32_t milliseconds, void *buffer,
                          size_t room, nuz_answer *answer);
 
 /** Commits txn as nuz_commit does, and wakes those that wait. The thread does not have the lock.
- * (They notice other ends within 50 milliseconds.) */
+ * (They notice other ends, and what nuz_cancel forgets, within 50 milliseconds.) */
 uint32_t nuz_shared_commit(nuz_shared *shared, uint64_t txn, nuz_answer *answer);
 
 /** The same, but aborts txn as nuz_abort does. */

@@ -148,7 +148,7 @@ static bool are_no_options(uint32_t options) {
 }
 
 static bool bad_options_are_told(void) {
-    CHECK(are_no_options(2) && are_no_options(3) && are_no_options(UINT32_MAX));
+    CHECK(are_no_options(4) && are_no_options(5) && are_no_options(UINT32_MAX));
     return true;
 }
 
@@ -385,7 +385,7 @@ static bool are_bad(nuz_limits limits) {
     nuz_tree *t = (nuz_tree *)&no_tree, *other = t;
     CHECK(nuz_tree_open_with(&t, NUZ_RELAXED, &limits) == NUZ_BAD_LIMITS && t == NULL);
     CHECK(nuz_tree_open_with(&other, NUZ_MOSS, &limits) == NUZ_BAD_LIMITS && other == NULL);
-    return nuz_tree_open_with(&t, 2, &limits) == NUZ_BAD;
+    return nuz_tree_open_with(&t, 4, &limits) == NUZ_BAD;
 }
 
 static bool limits_above_the_greatest_are_told(void) {

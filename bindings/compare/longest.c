@@ -1,6 +1,6 @@
 /* longest: how long one call can take, and so how long it keeps the lock of a tree that threads
  * share: a commit and an abort of many calls, nested commits, a call that many transactions block,
- * and the waits-for report.
+ * calls while others wait in turn, and the waits-for report.
  *
  *     cc -O2 -I../c longest.c ../out/libnuzolged.a -o longest
  *     ./longest
@@ -139,6 +139,39 @@ static void wait_for_one(void) {
     print_since("nuz_cycle of 1,000 calls that one transaction blocks", begun);
 }
 
+/* Makes a call that nobody blocks, of a transaction of its own, which is then gone. */
+static void look(const char *what) {
+    uint64_t txn = begin();
+    double begun = milliseconds();
+    must(nuz_stat(tree, txn, NUZ_S("/"), &answer));
+    print_since(what, begun);
+    must(nuz_abort(tree, txn, &answer));
+}
+
+/* Has many wait in turn, for one that waits for a lock. */
+static void wait_in_turn(void) {
+    nuz_tree_fair(tree, true);
+    must(nuz_list(tree, begin(), NUZ_S("/"), &answer));
+    look("a call while nobody waits");
+    nuz_mkdir(tree, begin(), NUZ_S("/name"), NUZ_DEFAULT_MODE, &answer);
+    for (int i = 1; i <= 100; i++) {
+        nuz_list(tree, begin(), NUZ_S("/"), &answer);
+        if (i == 10 || i == 100) {
+            look(i == 10 ? "the same while 10 wait in turn" : "the same while 100 wait in turn");
+        }
+    }
+}
+
+/* Has many wait for a lock, in a tree in which calls wait in turn. */
+static void wait_for_one_in_turn(void) {
+    nuz_tree_fair(tree, true);
+    must(nuz_mkdir(tree, begin(), NUZ_S("/name"), NUZ_DEFAULT_MODE, &answer));
+    for (int i = 0; i < 100; i++) {
+        nuz_stat(tree, begin(), NUZ_S("/name"), &answer);
+    }
+    look("the same while 100 wait for a lock");
+}
+
 static void report(void) {
     block();
     double begun = milliseconds();
@@ -155,6 +188,8 @@ int main(void) {
     in_a_tree(abort_files);
     in_a_tree(commit_levels);
     in_a_tree(wait_for_one);
+    in_a_tree(wait_in_turn);
+    in_a_tree(wait_for_one_in_turn);
     in_a_tree(report);
     return EXIT_SUCCESS;
 }

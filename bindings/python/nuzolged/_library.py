@@ -17,7 +17,7 @@ _NAME = "libnuzolged.so.1"
 DIR, FILE, LINK = 1, 2, 3
 READ_ONLY, WRITE_ONLY, READ_WRITE = 0, 1, 2
 CREATE, EXCL, TRUNC, APPEND = 0o100, 0o200, 0o1000, 0o2000
-RELAXED, MOSS = 0, 1
+RELAXED, MOSS, FAIR = 0, 1, 2
 
 #: The mode that means that none is given.
 DEFAULT_MODE = (1 << 32) - 1

@@ -23,6 +23,9 @@ from ._library import Answer, ClosedTree, Limits, OpenTree, library
 NAMES_ROOM = 4096
 _REPLY_ROOM = 256
 
+#: For how many seconds a thread sleeps at most before its call is made again.
+_MOST_PAUSE = 0.05
+
 #: How many members of a cycle are asked for.
 _CYCLE_ROOM = 16
 
@@ -96,7 +99,8 @@ class Session:
         parts: Parts = None,
     ) -> Answer:
         """Makes a request, and raises its error, with these paths. A blocked request is made again
-        whenever a transaction has ended, for so many seconds."""
+        whenever a transaction has ended or waits no longer, and every 50 milliseconds, for so many
+        seconds."""
         if timeout == 0 and self._keeps_waits:
             answer = self._once(request, parts)
         else:
@@ -169,28 +173,36 @@ class Session:
 
     def _wait(self, request: Request, parts: Parts, timeout: float | None) -> Answer:
         """Makes a request, and makes it again while it is blocked, until the time is over or it
-        would wait for ever. Then it is cancelled, so that no report shows it as waiting."""
+        would wait for ever. Then it is cancelled, so that no report shows it as waiting, and no
+        other request waits behind it."""
         with self.lock:
             answer = self._once(request, parts)
-            end = _end_of(timeout) if answer.code == WAITS else None
-            while answer.code == WAITS:
-                number = request[1][0]
-                left = None if end is None else end - time.monotonic()
-                answer.cycle = self._cycle(number) if timeout != 0 else []
-                if answer.cycle or (left is not None and left <= 0):
-                    self._library.nuz_cancel(number)
-                    break
-                self._sleep(left, number)
-                answer = self._once(request, parts)
+            if answer.code == WAITS:
+                try:
+                    answer = self._wait_on(answer, request, parts, timeout)
+                finally:
+                    self._cancel(request[1][0])
             return answer
 
-    def _sleep(self, seconds: float | None, number: object) -> None:
-        """Sleeps until a transaction has ended. An interrupt cancels the request that waits."""
-        try:
-            self._ended.wait(None if seconds is None else min(seconds, threading.TIMEOUT_MAX))
-        except BaseException:
-            self._library.nuz_cancel(number)
-            raise
+    def _wait_on(
+        self, answer: Answer, request: Request, parts: Parts, timeout: float | None
+    ) -> Answer:
+        """Makes a blocked request again, until the time is over or it would wait for ever."""
+        end = _end_of(timeout)
+        while answer.code == WAITS:
+            left = _MOST_PAUSE if end is None else end - time.monotonic()
+            answer.cycle = self._cycle(request[1][0]) if timeout != 0 else []
+            if answer.cycle or left <= 0:
+                break
+            self._ended.wait(min(left, _MOST_PAUSE))
+            answer = self._once(request, parts)
+        return answer
+
+    def _cancel(self, number: object) -> None:
+        """Cancels the request that a transaction waits for, if there is one. Others may wait behind
+        it."""
+        if not self._library.nuz_cancel(number).code:
+            self._ended.notify_all()
 
     def _cycle(self, number: object, room: int = _CYCLE_ROOM) -> list[int]:
         """The transactions of a cycle of waits that begins with this one; none if it is part of
@@ -295,6 +307,8 @@ class Session:
     def renew_after_fork(self) -> None:
         """In the child there is only this thread: no other holds the lock or waits."""
         self._renew_lock()
+        for number in [] if self._keeps_waits else list(self._held):
+            self._library.nuz_cancel(number)
 
 
 class Held(weakref.ref):  # type: ignore[type-arg]

@@ -173,7 +173,7 @@ class Transaction(Whole):
         Raises:
             Refused: It waits for no call, or has ended.
         """
-        self._ask("nuz_cancel")
+        self.session.end(("nuz_cancel", (self.number,)))
 
 
 class Within(Whole):

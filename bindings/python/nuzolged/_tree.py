@@ -26,12 +26,24 @@ class Tree:
             at once. With 0 it does not wait, unless its transaction has another timeout: `Waits` is
             raised at once, and the call is kept, so that reports list it, until the transaction
             makes another, or cancels it by `cancel_wait`.
+        fair: Whether calls wait in turn: a call that no lock blocks also waits for each older
+            waiting call that conflicts with it, so one reader after another can't pass a writer. It
+            never waits in turn for a transaction above or below its own, or for one that waits for
+            its own: so this closes no deadlock. By default they do if the timeout is not 0. With 0
+            a call that is kept also keeps its turn.
     """
 
     def __init__(
-        self, *, moss: bool = False, limits: Limits = Limits(), timeout: float | None = 0
+        self,
+        *,
+        moss: bool = False,
+        limits: Limits = Limits(),
+        timeout: float | None = 0,
+        fair: bool | None = None,
     ) -> None:
         options = _library.MOSS if moss else _library.RELAXED
+        if fair or (fair is None and timeout != 0):
+            options |= _library.FAIR
         self.timeout = time_limit(timeout)
         self.session = Session(options, _limits.for_library(limits), keeps_waits=timeout == 0)
 
@@ -83,7 +95,8 @@ class Tree:
 
     def request(self, line: str) -> str:
         """Carries out one line of a script without waiting, and returns the text of the reply. The
-        line may also be a report, such as `tree`, `locks` or `waits`.
+        line may also be a report, such as `tree`, `locks` or `waits`. A call that has to wait is
+        kept until a line drops it, and others may wait behind it.
 
         Raises:
             ValueError: It is not a line of a script.

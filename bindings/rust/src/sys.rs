@@ -54,6 +54,12 @@ impl Handle {
     pub fn tree(&mut self) -> *mut raw::nuz_tree {
         self.at.as_ptr()
     }
+
+    /// Sets whether calls wait in turn.
+    pub fn set_fair(&mut self, is_fair: bool) {
+        // SAFETY: see the head of this module.
+        unsafe { raw::nuz_tree_fair(self.at.as_ptr(), is_fair) }
+    }
 }
 
 impl Handle {

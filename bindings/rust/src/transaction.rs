@@ -262,7 +262,7 @@ impl<R: Reach> Transaction<R> {
             .map_err(|error| error.about(&paths))
     }
 
-    /// Makes a request that ends this transaction.
+    /// Makes a request that ends this transaction or its wait.
     fn end(&self, ask: impl FnOnce(&mut Handle, u64) -> Answer) -> Result<Answer> {
         self.tree
             .end(|handle| answered(handle, |handle| ask(handle, self.number)))
@@ -352,7 +352,7 @@ impl<R: Reach> Transaction<R> {
     /// Refused as `NoAsk` if it waits for no call.
     #[doc(alias = "nuz_cancel")]
     pub fn cancel_wait(&self) -> Result<()> {
-        self.ask(Handle::cancel)?;
+        self.end(Handle::cancel)?;
         Ok(())
     }
 

@@ -121,6 +121,11 @@ impl Tree {
 /// cancelled, and returns [`Error::Waits`]. If it would wait forever, since transactions wait for
 /// each other, it returns [`Error::Deadlock`] at once: drop the transaction that gets this, and
 /// begin again.
+///
+/// Calls wait in turn. A call that no lock blocks also waits for each older waiting call that
+/// conflicts with it, so one reader after another can't pass a writer. It never waits in turn for a
+/// transaction above or below its own, or for one that waits for its own: so this closes no
+/// deadlock. [`without_turns`](Shared::without_turns) lets calls pass older ones.
 #[derive(Clone, Debug)]
 pub struct Shared {
     inner: Arc<Inner>,
@@ -130,19 +135,37 @@ pub struct Shared {
 #[derive(Debug)]
 struct Inner {
     handle: Mutex<Handle>,
-    /// Told whenever a transaction has ended.
+    /// Told whenever a transaction has ended, or waits no longer.
     ended: Condvar,
 }
 
 impl Shared {
     /// Shares a tree. A call waits as long as `limit`, and not longer.
     pub fn new(tree: Tree, limit: Duration) -> Shared {
-        let handle = Mutex::new(tree.handle.into_inner());
+        let mut handle = tree.handle.into_inner();
+        handle.set_fair(true);
+        let handle = Mutex::new(handle);
         let ended = Condvar::new();
         Shared {
             inner: Arc::new(Inner { handle, ended }),
             limit,
         }
+    }
+
+    /// Returns the same tree, whose calls no longer wait in turn, neither by this `Shared` nor by a
+    /// clone. Then a call waits only for locks, and readers may pass a writer again and again.
+    ///
+    /// ```
+    /// # use nuzolged::{Error, Shared, Tree};
+    /// # use std::time::Duration;
+    /// let tree = Shared::new(Tree::new()?, Duration::from_secs(60)).without_turns();
+    /// # Ok::<(), Error>(())
+    /// ```
+    #[doc(alias = "nuz_tree_fair")]
+    #[must_use]
+    pub fn without_turns(self) -> Shared {
+        self.lock().set_fair(false);
+        self
     }
 
     /// Returns the same tree with another limit, for the transactions that are begun by it.
@@ -188,7 +211,8 @@ impl Shared {
 
     /// Carries out one line of a script without waiting, and returns the text of the reply. The
     /// line may also be a report, such as `tree`, `locks` or `waits`. A line may end a transaction
-    /// of which somebody has a [`Transaction`]: its requests are then refused.
+    /// of which somebody has a [`Transaction`]: its requests are then refused. A call that has to
+    /// wait is kept until a line drops it, and others may wait behind it.
     ///
     /// # Errors
     ///
@@ -210,7 +234,14 @@ impl Shared {
             .unwrap_or_else(PoisonError::into_inner)
     }
 
-    /// Sleeps until a transaction has ended or the time is over, without the handle.
+    /// Forgets the call that a transaction waits for, behind which others may wait.
+    fn forget(&self, handle: &mut Handle, txn: u64) {
+        handle.cancel(txn);
+        self.inner.ended.notify_all();
+    }
+
+    /// Sleeps until a transaction has ended or waits no longer, or the time is over, without the
+    /// handle.
     fn sleep<'h>(&self, handle: MutexGuard<'h, Handle>, time: Duration) -> MutexGuard<'h, Handle> {
         let woken = self.inner.ended.wait_timeout(handle, time);
         woken.unwrap_or_else(PoisonError::into_inner).0
@@ -263,13 +294,16 @@ impl sealed::Reach for Shared {
         loop {
             let answer = request(&mut handle);
             if !matches!(answer, Err(Error::Waits(_))) {
+                if begun.is_some() && matches!(answer, Err(Error::Refused(_))) {
+                    self.forget(&mut handle, txn);
+                }
                 return answer;
             }
             let waited = begun.get_or_insert_with(Instant::now).elapsed();
             let left = self.limit.saturating_sub(waited);
             let cycle = waits::cycle(&mut handle, txn);
             if left.is_zero() || cycle.is_some() {
-                handle.cancel(txn);
+                self.forget(&mut handle, txn);
                 return cycle.map_or(answer, |cycle| Err(Error::Deadlock(cycle)));
             }
             handle = self.sleep(handle, left.min(MOST_PAUSE));

@@ -124,6 +124,8 @@ pub const NUZ_LIMITS_SCRIPT: nuz_limits = nuz_limits {
 pub const NUZ_RELAXED: u32 = 0;
 /// The options of a tree, combined in one number.
 pub const NUZ_MOSS: u32 = 1;
+/// The options of a tree, combined in one number.
+pub const NUZ_FAIR: u32 = 2;
 /// reads
 pub const NUZ_O_RDONLY: u32 = 0;
 /// writes
@@ -241,7 +243,7 @@ extern "C" {
     /// Returns 0, or `NUZ_BAD` if an option is not valid, or `NUZ_MEMORY`.
     /// - `tree`: receives the tree, which the caller closes, or null if there is none. Its previous
     /// value does not matter
-    /// - `options`: `NUZ_MOSS`, or 0
+    /// - `options`: any of `NUZ_MOSS` and `NUZ_FAIR`, or 0
     pub fn nuz_tree_open(tree: *mut *mut nuz_tree, options: u32) -> u32;
     /// The same with these limits, which last, even through checkpoints. Also returns `NUZ_BAD_LIMITS` if
     /// the options are valid and a limit is above the greatest.
@@ -256,6 +258,19 @@ extern "C" {
     /// after the tree was opened. Pass a number from getrandom(2) or the like. Without this call the
     /// number is 0. The function changes no answer, and takes no memory.
     pub fn nuz_tree_seed(tree: *mut nuz_tree, seed: u64);
+    /// Sets whether calls wait in turn from here on. If they do, a call that no lock blocks also waits
+    /// for each transaction whose waiting call is older and conflicts with it. So a call that writes is
+    /// not passed by one reader after another. A call never waits in turn for the caller, for a
+    /// transaction above or below it, or for one that waits for the caller, directly or through others.
+    /// If an older one comes to wait for the caller, the next `nuz_retry` of the caller no longer waits
+    /// for that one. So to wait in turn closes no deadlock.
+    ///
+    /// A call is as old as its first request that had to wait. It stays so if its transaction retries it
+    /// or makes the same call again. Another call of the transaction is new. A waiting call that nobody
+    /// retries holds others back, so forget it by `nuz_cancel`. While calls wait, another one takes time
+    /// and memory for all waits of the tree. The function itself takes no memory.
+    /// - `is_fair`: whether calls wait in turn
+    pub fn nuz_tree_fair(tree: *mut nuz_tree, is_fair: bool);
     /// Frees a tree with all its transactions, even live ones. If tree is null, it does nothing.
     pub fn nuz_tree_close(tree: *mut nuz_tree);
     /// Begins a transaction: number is that of the transaction. The caller ends it by a commit or an
@@ -621,9 +636,10 @@ extern "C" {
         nanoseconds: u32,
         answer: *mut nuz_answer,
     ) -> u32;
-    /// Lists the transactions for which txn waits now, in ascending order: number is how many. If there
-    /// are none any more, `nuz_retry` makes the call. As many numbers as have room are copied. The
-    /// function changes nothing, and the last answer stays. Refused as `nuz_retry` is: `NUZ_NO_TXN`,
+    /// Lists the transactions for which txn waits now, in ascending order: number is how many. They
+    /// have a lock that blocks the call. If none has, and calls wait in turn, they have an older call.
+    /// If there are none any more, `nuz_retry` makes the call. As many numbers as have room are copied.
+    /// The function changes nothing, and the last answer stays. Refused as `nuz_retry` is: `NUZ_NO_TXN`,
     /// `NUZ_ENDED`, `NUZ_NO_ASK`, `NUZ_FULL`, `NUZ_MEMORY`.
     /// - `txns`: where their numbers go
     /// - `room`: how many numbers it has room for
@@ -636,10 +652,11 @@ extern "C" {
     ) -> u32;
     /// Finds a deadlock, if there is one. In a deadlock each transaction waits for the next, and the
     /// last for the first. Each one waits for a lock, or because the next is a live subtransaction of
-    /// it. number is how many transactions there are, and 0 exactly if there is no deadlock. The least
-    /// comes first. If there are several deadlocks, it is left open which one is returned. As many
-    /// numbers as have room are copied. The function changes nothing, and the last answer stays. It
-    /// takes time and memory for all waits of the tree. Refused: `NUZ_MEMORY`.
+    /// it. (To wait in turn is part of no deadlock, as `nuz_tree_fair` says.) number is how many
+    /// transactions there are, and 0 exactly if there is no deadlock. The least comes first. If there
+    /// are several deadlocks, it is left open which one is returned. As many numbers as have room are
+    /// copied. The function changes nothing, and the last answer stays. It takes time and memory for all
+    /// waits of the tree. Refused: `NUZ_MEMORY`.
     /// - `txns`: where their numbers go
     /// - `room`: how many numbers it has room for
     pub fn nuz_cycle(
@@ -807,8 +824,9 @@ extern "C" {
         room: usize,
         answer: *mut nuz_answer,
     ) -> u32;
-    /// Shares a tree. From here on only the shared tree uses it, and closes it. Returns 0, or
-    /// `NUZ_MEMORY`: then nothing has changed.
+    /// Shares a tree. From here on only the shared tree uses it, and closes it. Calls wait in turn, as
+    /// `nuz_tree_fair` says. To let them pass older ones, call `nuz_tree_fair` with the tree that
+    /// `nuz_shared_lock` returns. Returns 0, or `NUZ_MEMORY`: then nothing has changed.
     /// - `shared`: receives the shared tree, which the caller closes, or null
     /// - `tree`: an open tree
     pub fn nuz_shared_open(shared: *mut *mut nuz_shared, tree: *mut nuz_tree) -> u32;
@@ -821,12 +839,13 @@ extern "C" {
     pub fn nuz_shared_unlock(shared: *mut nuz_shared);
     /// Waits for the call that txn has just made, if its code is `NUZ_WAITS`, and returns what the call
     /// returns in the end. The thread has the lock, which is free while the thread sleeps. The call is
-    /// made again when a transaction has ended, and every 50 milliseconds. The data that it reads or
-    /// lists goes to buffer, as with `nuz_retry`.
+    /// made again when a transaction has ended or another waiting call is forgotten, and every 50
+    /// milliseconds. The data that it reads or lists goes to buffer, as with `nuz_retry`.
     ///
     /// If the call would wait forever, EDEADLK is returned at once: the transactions in blockers wait
     /// for each other, and txn comes first. number is how many there are. No call returns EDEADLK
-    /// itself. If the time is over, `NUZ_WAITS` is returned. In both cases the call is forgotten.
+    /// itself. If the time is over, `NUZ_WAITS` is returned. In both cases the call is forgotten, and so it
+    /// is if it is refused while it waits.
     /// - `milliseconds`: how long it waits at most, or `NUZ_FOREVER`
     /// - `answer`: the answer of the call, which is replaced by that of the last one
     pub fn nuz_shared_wait(
@@ -838,7 +857,7 @@ extern "C" {
         answer: *mut nuz_answer,
     ) -> u32;
     /// Commits txn as `nuz_commit` does, and wakes those that wait. The thread does not have the lock.
-    /// (They notice other ends within 50 milliseconds.)
+    /// (They notice other ends, and what `nuz_cancel` forgets, within 50 milliseconds.)
     pub fn nuz_shared_commit(shared: *mut nuz_shared, txn: u64, answer: *mut nuz_answer) -> u32;
     /// The same, but aborts txn as `nuz_abort` does.
     pub fn nuz_shared_abort(shared: *mut nuz_shared, txn: u64, answer: *mut nuz_answer) -> u32;
