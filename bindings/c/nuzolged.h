@@ -173,14 +173,14 @@ enum { NUZ_SET = 0, NUZ_CUR = 1, NUZ_END = 2 };
 static inline const char *nuz_strerror(uint32_t code) {
     switch (code) {
     case 0: return "carried out";
-    case NUZ_MEMORY: return "there is no memory";
+    case NUZ_MEMORY: return "there is not enough memory";
     case NUZ_NO_TXN: return "there is no such transaction";
     case NUZ_ENDED: return "the transaction has ended";
     case NUZ_CHILD_LIVE: return "the transaction has a live subtransaction";
     case NUZ_NOTHING_TO_UNDO: return "there is no call to undo";
     case NUZ_SUB_SINCE: return "a subtransaction has committed since the last call";
-    case NUZ_FULL: return "all transactions or calls are used up";
-    case NUZ_DEEP: return "the transaction is too deep";
+    case NUZ_FULL: return "the limit on transactions or calls is reached";
+    case NUZ_DEEP: return "the transaction is at the greatest depth";
     case NUZ_LIVE: return "a transaction is live";
     case NUZ_NO_ASK: return "the transaction waits for no call";
     case NUZ_BAD_LIMITS: return "a limit is above the greatest";
