@@ -597,7 +597,7 @@ class ReadAndWrittenTest(RunTest):
                 large.write(bytes(4_096))
         ended = self.run_it("--from", self.source, "--to", self.target, "--depfile", full / "deps",
                             "--manifest", self.told, "--", "touch", "new", status=74)
-        self.assertRegex(ended.stderr, "deps: No space left(?s:.*)is committed, and saved, all")
+        self.assertRegex(ended.stderr, "deps: No space left(?s:.*)is committed, and saved, even so")
         self.assertEqual((full / "deps").read_text(), "before")
         self.assertEqual(sorted(os.listdir(full)), ["deps", "large"])
         self.assertTrue((self.target / "new").exists())

@@ -228,7 +228,7 @@ class AtTest(RunTest):
         mounted = self.mount()
         for at, words, why in (
                 ("/", ["--from", self.source], "nothing can take the place of the root"),
-                (self.disk / "told", ["--from", self.source], "in the place of the root"),
+                (self.disk / "told", ["--from", self.source], "the place of the root"),
                 (self.temporary, ["--from", self.source], "the mount of the step is in this"),
                 (self.disk, ["--from", self.source], "the mount of the step is in this"),
                 (self.disk, ["--in", mounted.top / "a"], "the mount of the step is in this")):
