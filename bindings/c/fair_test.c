@@ -357,8 +357,7 @@ static bool shared_tree_has_turns(void) {
 
 static bool shared_tree_may_be_without(void) {
     CHECK(shared_with(BEGUN "begin;begin;begin;2 list /d;"));
-    nuz_tree_fair(nuz_shared_lock(shared), false);
-    nuz_shared_unlock(shared);
+    nuz_shared_fair(shared, false);
     call writer = { 3, "3 mkdir /d/w", LONG, .answer = { 0 } };
     call reader = { 4, "4 list /d", 0, .answer = { 0 } };
     CHECK(begins_to_wait(&writer));
@@ -445,6 +444,51 @@ static bool each_thread_comes_to_its_end(void) {
     return true;
 }
 
+enum { MANY = 150 };
+
+static int asked;
+
+/* Changes the mode of a file, for which all wait, in a transaction of its own. */
+static void *change(void *is_good) {
+    nuz_answer told;
+    nuz_tree *tree = nuz_shared_lock(shared);
+    nuz_begin(tree, &told);
+    uint64_t txn = told.number;
+    nuz_chmod(tree, txn, NUZ_S("/f"), 0600, &told);
+    asked++;
+    uint32_t code = nuz_shared_wait(shared, txn, NUZ_FOREVER, NULL, 0, &told);
+    nuz_shared_unlock(shared);
+    *(bool *)is_good = code == 0 && nuz_shared_commit(shared, txn, &told) == 0;
+    return NULL;
+}
+
+static void await_all(void) {
+    for (int count = 0; count < MANY; sleep_for(5)) {
+        nuz_shared_lock(shared);
+        count = asked;
+        nuz_shared_unlock(shared);
+    }
+}
+
+/* All wait for one transaction, and then each for those that come before it. */
+static bool many_come_to_their_end(void) {
+    pthread_t threads[MANY];
+    bool are_good[MANY] = { false };
+    CHECK(shared_with("begin;1 open wc /f;commit 1;begin;2 stat /f;"));
+    for (size_t i = 0; i < MANY; i++) {
+        CHECK(pthread_create(&threads[i], NULL, change, &are_good[i]) == 0);
+    }
+    await_all();
+    time_t begun = time(NULL);
+    CHECK(nuz_shared_commit(shared, 2, &answer) == 0);
+    for (size_t i = 0; i < MANY; i++) {
+        CHECK(pthread_join(threads[i], NULL) == 0 && are_good[i]);
+    }
+    CHECK(time(NULL) - begun < 60);
+    nuz_shared_close(shared);
+    return true;
+}
+
 static const test TESTS[] = {
     TEST(writer_is_not_passed),
     TEST(writer_is_passed_without_turns),
@@ -463,6 +507,7 @@ static const test TESTS[] = {
     TEST(time_that_is_over_frees_the_next),
     TEST(deadlock_is_told_at_once),
     TEST(each_thread_comes_to_its_end),
+    TEST(many_come_to_their_end),
 };
 
 int main(void) {

@@ -221,7 +221,8 @@ void nuz_tree_seed(nuz_tree *tree, uint64_t seed);
  * for that one. So to wait in turn closes no deadlock.
  *
  * A call is as old as its first request that had to wait. It stays so if its transaction retries it
- * or makes the same call again. Another call of the transaction is new. A waiting call that nobody
+ * or makes the same call again. Another call of the transaction is new, and so is one that waited
+ * before calls waited in turn: it gets the last turn when it is made again. A waiting call that nobody
  * retries holds others back, so forget it by nuz_cancel. While calls wait, another one takes time
  * and memory for all waits of the tree. The function itself takes no memory.
  * @param is_fair whether calls wait in turn */

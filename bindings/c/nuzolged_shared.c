@@ -10,13 +10,19 @@
 #include <stdlib.h>
 #include <time.h>
 
-/* How many milliseconds a thread sleeps at most before its call is made again. */
-enum { MOST_PAUSE = 50 };
+/* How many milliseconds a thread sleeps at most before its call is made again: so many, or so many
+ * for each call that waits if that is more. */
+enum { MOST_PAUSE = 50, PAUSE_EACH = 5 };
+
+/* With how many waiting calls they wait in turn. A turn takes time for each pair of them. */
+enum { MOST_TURNS = 32 };
 
 struct nuz_shared {
     nuz_tree *tree;
     pthread_mutex_t lock;
     pthread_cond_t ended;
+    uint64_t waiting; /* how many calls wait */
+    bool is_fair;     /* whether calls are to wait in turn */
 };
 
 /* A call that waits. It is made again by a retry or, if it is of a copy, by make. */
@@ -54,6 +60,8 @@ uint32_t nuz_shared_open(nuz_shared **shared, nuz_tree *tree) {
         return NUZ_MEMORY;
     }
     (*shared)->tree = tree;
+    (*shared)->waiting = 0;
+    (*shared)->is_fair = true;
     nuz_tree_fair(tree, true);
     return 0;
 }
@@ -76,6 +84,18 @@ void nuz_shared_unlock(nuz_shared *shared) {
     pthread_mutex_unlock(&shared->lock);
 }
 
+/* Lets calls wait in turn, if they are to and not too many wait. */
+static void set_turns(nuz_shared *shared) {
+    nuz_tree_fair(shared->tree, shared->is_fair && shared->waiting <= MOST_TURNS);
+}
+
+void nuz_shared_fair(nuz_shared *shared, bool is_fair) {
+    nuz_shared_lock(shared);
+    shared->is_fair = is_fair;
+    set_turns(shared);
+    nuz_shared_unlock(shared);
+}
+
 static uint64_t now(void) {
     struct timespec time;
     clock_gettime(CLOCK_MONOTONIC, &time);
@@ -85,7 +105,9 @@ static uint64_t now(void) {
 /* Sleeps until a transaction has ended or waits no longer, but at most to that time, or for a
  * pause. */
 static void nap(nuz_shared *shared, uint64_t begun, uint64_t end) {
-    uint64_t woken = end - begun < MOST_PAUSE ? end : begun + MOST_PAUSE;
+    uint64_t each = shared->waiting * PAUSE_EACH;
+    uint64_t pause = each < MOST_PAUSE ? MOST_PAUSE : each;
+    uint64_t woken = end - begun < pause ? end : begun + pause;
     struct timespec time = { (time_t)(woken / 1000), (long)(woken % 1000) * 1000000 };
     pthread_cond_timedwait(&shared->ended, &shared->lock, &time);
 }
@@ -117,8 +139,8 @@ static uint32_t make_again(nuz_shared *shared, const call *call) {
         : nuz_retry(shared->tree, call->txn, call->buffer, call->room, call->answer);
 }
 
-/* Waits for a call as long as it has to. */
-static uint32_t waited(nuz_shared *shared, const call *call, uint32_t milliseconds) {
+/* Makes a call again as long as it has to wait. */
+static uint32_t wait_on(nuz_shared *shared, const call *call, uint32_t milliseconds) {
     uint32_t code = NUZ_WAITS;
     uint64_t begun = now();
     uint64_t end = milliseconds == NUZ_FOREVER ? UINT64_MAX : begun + milliseconds;
@@ -138,6 +160,16 @@ static uint32_t waited(nuz_shared *shared, const call *call, uint32_t millisecon
     if (code >= NUZ_MEMORY) {
         forget(shared, call);
     }
+    return code;
+}
+
+/* Waits for a call as long as it has to. */
+static uint32_t waited(nuz_shared *shared, const call *call, uint32_t milliseconds) {
+    shared->waiting++;
+    set_turns(shared);
+    uint32_t code = wait_on(shared, call, milliseconds);
+    shared->waiting--;
+    set_turns(shared);
     return code;
 }
 

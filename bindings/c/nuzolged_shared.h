@@ -36,8 +36,7 @@ typedef struct nuz_shared_copy {
 } nuz_shared_copy;
 
 /** Shares a tree. From here on only the shared tree uses it, and closes it. Calls wait in turn, as
- * nuz_tree_fair says. To let them pass older ones, call nuz_tree_fair with the tree that
- * nuz_shared_lock returns. Returns 0, or NUZ_MEMORY: then nothing has changed.
+ * nuz_shared_fair says. Returns 0, or NUZ_MEMORY: then nothing has changed.
  * @param shared receives the shared tree, which the caller closes, or null
  * @param tree an open tree */
 uint32_t nuz_shared_open(nuz_shared **shared, nuz_tree *tree);
@@ -45,6 +44,12 @@ uint32_t nuz_shared_open(nuz_shared **shared, nuz_tree *tree);
 /** Frees a shared tree with its tree. No thread uses it any more. If shared is null, it does
  * nothing. */
 void nuz_shared_close(nuz_shared *shared);
+
+/** Sets whether calls wait in turn from here on, as nuz_tree_fair says. They do so only as long as
+ * at most 32 calls wait, since a turn takes time for all of them: with more, a call may pass older
+ * ones. (Don't call nuz_tree_fair for a shared tree.) The thread does not have the lock.
+ * @param is_fair whether calls wait in turn */
+void nuz_shared_fair(nuz_shared *shared, bool is_fair);
 
 /** Takes the lock, and returns the tree. The thread does not have the lock yet. */
 nuz_tree *nuz_shared_lock(nuz_shared *shared);
@@ -55,7 +60,9 @@ void nuz_shared_unlock(nuz_shared *shared);
 /** Waits for the call that txn has just made, if its code is NUZ_WAITS, and returns what the call
  * returns in the end. The thread has the lock, which is free while the thread sleeps. The call is
  * made again when a transaction has ended or another waiting call is forgotten, and every 50
- * milliseconds. The data that it reads or lists goes to buffer, as with nuz_retry.
+ * milliseconds (5 for each waiting call if more than ten wait). The data that it reads or lists goes
+ * to buffer, as with nuz_retry. If another thread forgets the call by nuz_cancel, NUZ_NO_ASK is
+ * returned.
  *
  * If the call would wait forever, EDEADLK is returned at once: the transactions in blockers wait
  * for each other, and txn comes first. number is how many there are. No call returns EDEADLK
@@ -67,7 +74,7 @@ uint32_t nuz_shared_wait(nuz_shared *shared, uint64_t txn, uint32_t milliseconds
                          size_t room, nuz_answer *answer);
 
 /** Commits txn as nuz_commit does, and wakes those that wait. The thread does not have the lock.
- * (They notice other ends, and what nuz_cancel forgets, within 50 milliseconds.) */
+ * (They notice other ends, and what nuz_cancel forgets, when their calls are made again.) */
 uint32_t nuz_shared_commit(nuz_shared *shared, uint64_t txn, nuz_answer *answer);
 
 /** The same, but aborts txn as nuz_abort does. */

@@ -7,7 +7,7 @@ import itertools
 import operator
 import os
 import struct
-from ctypes import POINTER, c_char_p, c_int64, c_size_t, c_uint32, c_uint64, c_void_p
+from ctypes import POINTER, c_bool, c_char_p, c_int64, c_size_t, c_uint32, c_uint64, c_void_p
 from pathlib import Path
 from typing import Callable, Iterator, NamedTuple
 
@@ -205,6 +205,8 @@ def _load() -> ctypes.CDLL:
     library.nuz_tree_open_with.restype = c_uint32
     library.nuz_tree_seed.argtypes = [c_void_p, c_uint64]
     library.nuz_tree_seed.restype = None
+    library.nuz_tree_fair.argtypes = [c_void_p, c_bool]
+    library.nuz_tree_fair.restype = None
     library.nuz_tree_close.argtypes = [c_void_p]
     library.nuz_tree_close.restype = None
     return library

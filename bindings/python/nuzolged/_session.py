@@ -16,15 +16,20 @@ import weakref
 from typing import Any, Callable, Optional
 
 from ._errors import AnyPath, Deadlock, Waits, error_of
-from ._library import BAD, CLOSED, FULL, MEMORY, WAITS
+from ._library import BAD, CLOSED, FAIR, FULL, MEMORY, WAITS
 from ._library import Answer, ClosedTree, Limits, OpenTree, library
 
 #: How many bytes of names a list is asked for with, and how many of the reply to a line.
 NAMES_ROOM = 4096
 _REPLY_ROOM = 256
 
-#: For how many seconds a thread sleeps at most before its call is made again.
+#: For how many seconds a thread sleeps at most before its call is made again: so many, or so many
+#: for each call that waits if that is more.
 _MOST_PAUSE = 0.05
+_PAUSE_EACH = 0.005
+
+#: With how many waiting calls they wait in turn. A turn takes time for each pair of them.
+_MOST_TURNS = 32
 
 #: How many members of a cycle are asked for.
 _CYCLE_ROOM = 16
@@ -51,6 +56,9 @@ class Session:
         handle = ctypes.c_void_p()
         #: Whether a blocked call with no time to wait stays the transaction's pending call.
         self._keeps_waits = keeps_waits
+        #: Whether calls are to wait in turn, and how many wait.
+        self._is_fair = bool(options & FAIR)
+        self._waiting = 0
         self._renew_lock()
         #: Whether the thread with the lock is between a request and its parts. (If an interrupt
         #: comes too soon, it stays set although no thread has the lock.)
@@ -99,8 +107,8 @@ class Session:
         parts: Parts = None,
     ) -> Answer:
         """Makes a request, and raises its error, with these paths. A blocked request is made again
-        whenever a transaction has ended or waits no longer, and every 50 milliseconds, for so many
-        seconds."""
+        whenever a transaction has ended or waits no longer, and every 50 milliseconds (5 for each
+        waiting call if more than ten wait), for so many seconds."""
         if timeout == 0 and self._keeps_waits:
             answer = self._once(request, parts)
         else:
@@ -178,11 +186,20 @@ class Session:
         with self.lock:
             answer = self._once(request, parts)
             if answer.code == WAITS:
+                self._count(1)
                 try:
                     answer = self._wait_on(answer, request, parts, timeout)
                 finally:
                     self._cancel(request[1][0])
+                    self._count(-1)
             return answer
+
+    def _count(self, change: int) -> None:
+        """Counts a call that begins to wait, or waits no longer. Calls wait in turn if they are to,
+        and not too many wait."""
+        self._waiting += change
+        if self._is_fair and self.is_open:
+            library.nuz_tree_fair(self._at, self._waiting <= _MOST_TURNS)
 
     def _wait_on(
         self, answer: Answer, request: Request, parts: Parts, timeout: float | None
@@ -190,11 +207,12 @@ class Session:
         """Makes a blocked request again, until the time is over or it would wait for ever."""
         end = _end_of(timeout)
         while answer.code == WAITS:
-            left = _MOST_PAUSE if end is None else end - time.monotonic()
+            pause = max(_MOST_PAUSE, _PAUSE_EACH * self._waiting)
+            left = pause if end is None else end - time.monotonic()
             answer.cycle = self._cycle(request[1][0]) if timeout != 0 else []
             if answer.cycle or left <= 0:
                 break
-            self._ended.wait(min(left, _MOST_PAUSE))
+            self._ended.wait(min(left, pause))
             answer = self._once(request, parts)
         return answer
 
@@ -307,6 +325,7 @@ class Session:
     def renew_after_fork(self) -> None:
         """In the child there is only this thread: no other holds the lock or waits."""
         self._renew_lock()
+        self._waiting = 0
         for number in [] if self._keeps_waits else list(self._held):
             self._library.nuz_cancel(number)
 

@@ -29,8 +29,9 @@ class Tree:
         fair: Whether calls wait in turn: a call that no lock blocks also waits for each older
             waiting call that conflicts with it, so one reader after another can't pass a writer. It
             never waits in turn for a transaction above or below its own, or for one that waits for
-            its own: so this closes no deadlock. By default they do if the timeout is not 0. With 0
-            a call that is kept also keeps its turn.
+            its own: so this closes no deadlock. While more than 32 calls wait, a call may pass older
+            ones. By default calls wait in turn if the timeout is not 0. With 0 a call that is kept
+            also keeps its turn.
     """
 
     def __init__(

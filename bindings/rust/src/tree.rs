@@ -6,11 +6,18 @@ use crate::sys::{self, Answer, Handle, Limits};
 use crate::transaction::Transaction;
 use crate::waits;
 use std::cell::RefCell;
+use std::sync::atomic::{AtomicBool, AtomicU32, Ordering::Relaxed};
 use std::sync::{Arc, Condvar, Mutex, MutexGuard, PoisonError};
 use std::time::{Duration, Instant};
 
 /// How long a thread sleeps at most before its call is made again.
 const MOST_PAUSE: Duration = Duration::from_millis(50);
+
+/// How much of that each waiting call takes at least: with more than ten, it is longer.
+const PAUSE_EACH: Duration = Duration::from_millis(5);
+
+/// With how many waiting calls they wait in turn. A turn takes time for each pair of them.
+const MOST_TURNS: u32 = 32;
 
 /// Which locks block a call.
 #[derive(Clone, Copy, Debug, Default, PartialEq, Eq)]
@@ -125,7 +132,8 @@ impl Tree {
 /// Calls wait in turn. A call that no lock blocks also waits for each older waiting call that
 /// conflicts with it, so one reader after another can't pass a writer. It never waits in turn for a
 /// transaction above or below its own, or for one that waits for its own: so this closes no
-/// deadlock. [`without_turns`](Shared::without_turns) lets calls pass older ones.
+/// deadlock. While more than 32 calls wait, and after [`without_turns`](Shared::without_turns), a
+/// call may pass older ones.
 #[derive(Clone, Debug)]
 pub struct Shared {
     inner: Arc<Inner>,
@@ -137,6 +145,10 @@ struct Inner {
     handle: Mutex<Handle>,
     /// Told whenever a transaction has ended, or waits no longer.
     ended: Condvar,
+    /// How many calls wait. (It is changed only under the lock of the handle, as is the next.)
+    waiting: AtomicU32,
+    /// Whether calls are to wait in turn.
+    is_fair: AtomicBool,
 }
 
 impl Shared {
@@ -144,10 +156,14 @@ impl Shared {
     pub fn new(tree: Tree, limit: Duration) -> Shared {
         let mut handle = tree.handle.into_inner();
         handle.set_fair(true);
-        let handle = Mutex::new(handle);
-        let ended = Condvar::new();
+        let inner = Inner {
+            handle: Mutex::new(handle),
+            ended: Condvar::new(),
+            waiting: AtomicU32::new(0),
+            is_fair: AtomicBool::new(true),
+        };
         Shared {
-            inner: Arc::new(Inner { handle, ended }),
+            inner: Arc::new(inner),
             limit,
         }
     }
@@ -164,7 +180,10 @@ impl Shared {
     #[doc(alias = "nuz_tree_fair")]
     #[must_use]
     pub fn without_turns(self) -> Shared {
-        self.lock().set_fair(false);
+        let mut handle = self.lock();
+        self.inner.is_fair.store(false, Relaxed);
+        self.set_turns(&mut handle);
+        drop(handle);
         self
     }
 
@@ -240,6 +259,43 @@ impl Shared {
         self.inner.ended.notify_all();
     }
 
+    /// Lets calls wait in turn, if they are to and not too many wait.
+    fn set_turns(&self, handle: &mut Handle) {
+        let waiting = self.inner.waiting.load(Relaxed);
+        handle.set_fair(self.inner.is_fair.load(Relaxed) && waiting <= MOST_TURNS);
+    }
+
+    /// Makes a blocked call again, until it is not blocked, the time is over, or it would wait for
+    /// ever.
+    fn wait_on<'h, T>(
+        &self,
+        mut handle: MutexGuard<'h, Handle>,
+        txn: u64,
+        blocked: Error,
+        mut request: impl FnMut(&mut Handle) -> Result<T>,
+    ) -> (MutexGuard<'h, Handle>, Result<T>) {
+        let begun = Instant::now();
+        let mut answer = Err(blocked);
+        while matches!(answer, Err(Error::Waits(_))) {
+            let left = self.limit.saturating_sub(begun.elapsed());
+            let cycle = waits::cycle(&mut handle, txn);
+            if left.is_zero() || cycle.is_some() {
+                self.forget(&mut handle, txn);
+                return (
+                    handle,
+                    cycle.map_or(answer, |cycle| Err(Error::Deadlock(cycle))),
+                );
+            }
+            let pause = MOST_PAUSE.max(PAUSE_EACH * self.inner.waiting.load(Relaxed));
+            handle = self.sleep(handle, left.min(pause));
+            answer = request(&mut handle);
+        }
+        if matches!(answer, Err(Error::Refused(_))) {
+            self.forget(&mut handle, txn);
+        }
+        (handle, answer)
+    }
+
     /// Sleeps until a transaction has ended or waits no longer, or the time is over, without the
     /// handle.
     fn sleep<'h>(&self, handle: MutexGuard<'h, Handle>, time: Duration) -> MutexGuard<'h, Handle> {
@@ -290,23 +346,16 @@ impl sealed::Reach for &Tree {
 impl sealed::Reach for Shared {
     fn reach<T>(&self, txn: u64, mut request: impl FnMut(&mut Handle) -> Result<T>) -> Result<T> {
         let mut handle = self.lock();
-        let mut begun = None;
-        loop {
-            let answer = request(&mut handle);
-            if !matches!(answer, Err(Error::Waits(_))) {
-                if begun.is_some() && matches!(answer, Err(Error::Refused(_))) {
-                    self.forget(&mut handle, txn);
-                }
-                return answer;
+        match request(&mut handle) {
+            Err(blocked @ Error::Waits(_)) => {
+                self.inner.waiting.fetch_add(1, Relaxed);
+                self.set_turns(&mut handle);
+                let (mut handle, answer) = self.wait_on(handle, txn, blocked, request);
+                self.inner.waiting.fetch_sub(1, Relaxed);
+                self.set_turns(&mut handle);
+                answer
             }
-            let waited = begun.get_or_insert_with(Instant::now).elapsed();
-            let left = self.limit.saturating_sub(waited);
-            let cycle = waits::cycle(&mut handle, txn);
-            if left.is_zero() || cycle.is_some() {
-                self.forget(&mut handle, txn);
-                return cycle.map_or(answer, |cycle| Err(Error::Deadlock(cycle)));
-            }
-            handle = self.sleep(handle, left.min(MOST_PAUSE));
+            answer => answer,
         }
     }
 

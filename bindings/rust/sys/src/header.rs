@@ -266,7 +266,8 @@ extern "C" {
     /// for that one. So to wait in turn closes no deadlock.
     ///
     /// A call is as old as its first request that had to wait. It stays so if its transaction retries it
-    /// or makes the same call again. Another call of the transaction is new. A waiting call that nobody
+    /// or makes the same call again. Another call of the transaction is new, and so is one that waited
+    /// before calls waited in turn: it gets the last turn when it is made again. A waiting call that nobody
     /// retries holds others back, so forget it by `nuz_cancel`. While calls wait, another one takes time
     /// and memory for all waits of the tree. The function itself takes no memory.
     /// - `is_fair`: whether calls wait in turn
@@ -825,14 +826,18 @@ extern "C" {
         answer: *mut nuz_answer,
     ) -> u32;
     /// Shares a tree. From here on only the shared tree uses it, and closes it. Calls wait in turn, as
-    /// `nuz_tree_fair` says. To let them pass older ones, call `nuz_tree_fair` with the tree that
-    /// `nuz_shared_lock` returns. Returns 0, or `NUZ_MEMORY`: then nothing has changed.
+    /// `nuz_shared_fair` says. Returns 0, or `NUZ_MEMORY`: then nothing has changed.
     /// - `shared`: receives the shared tree, which the caller closes, or null
     /// - `tree`: an open tree
     pub fn nuz_shared_open(shared: *mut *mut nuz_shared, tree: *mut nuz_tree) -> u32;
     /// Frees a shared tree with its tree. No thread uses it any more. If shared is null, it does
     /// nothing.
     pub fn nuz_shared_close(shared: *mut nuz_shared);
+    /// Sets whether calls wait in turn from here on, as `nuz_tree_fair` says. They do so only as long as
+    /// at most 32 calls wait, since a turn takes time for all of them: with more, a call may pass older
+    /// ones. (Don't call `nuz_tree_fair` for a shared tree.) The thread does not have the lock.
+    /// - `is_fair`: whether calls wait in turn
+    pub fn nuz_shared_fair(shared: *mut nuz_shared, is_fair: bool);
     /// Takes the lock, and returns the tree. The thread does not have the lock yet.
     pub fn nuz_shared_lock(shared: *mut nuz_shared) -> *mut nuz_tree;
     /// Releases the lock, which the thread has.
@@ -840,7 +845,9 @@ extern "C" {
     /// Waits for the call that txn has just made, if its code is `NUZ_WAITS`, and returns what the call
     /// returns in the end. The thread has the lock, which is free while the thread sleeps. The call is
     /// made again when a transaction has ended or another waiting call is forgotten, and every 50
-    /// milliseconds. The data that it reads or lists goes to buffer, as with `nuz_retry`.
+    /// milliseconds (5 for each waiting call if more than ten wait). The data that it reads or lists goes
+    /// to buffer, as with `nuz_retry`. If another thread forgets the call by `nuz_cancel`, `NUZ_NO_ASK` is
+    /// returned.
     ///
     /// If the call would wait forever, EDEADLK is returned at once: the transactions in blockers wait
     /// for each other, and txn comes first. number is how many there are. No call returns EDEADLK
@@ -857,7 +864,7 @@ extern "C" {
         answer: *mut nuz_answer,
     ) -> u32;
     /// Commits txn as `nuz_commit` does, and wakes those that wait. The thread does not have the lock.
-    /// (They notice other ends, and what `nuz_cancel` forgets, within 50 milliseconds.)
+    /// (They notice other ends, and what `nuz_cancel` forgets, when their calls are made again.)
     pub fn nuz_shared_commit(shared: *mut nuz_shared, txn: u64, answer: *mut nuz_answer) -> u32;
     /// The same, but aborts txn as `nuz_abort` does.
     pub fn nuz_shared_abort(shared: *mut nuz_shared, txn: u64, answer: *mut nuz_answer) -> u32;
