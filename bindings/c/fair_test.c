@@ -15,6 +15,7 @@
 
 #include "scarce.h"
 #include "testing.h"
+#include "waiting.h"
 
 static nuz_answer answer;
 
@@ -291,9 +292,6 @@ static bool want_of_memory_changes_nothing(void) {
 
 static nuz_shared *shared;
 
-/* Longer than any of these waits, in milliseconds, so that none is for ever. */
-enum { LONG = 20000 };
-
 /* A line of a transaction that waits, in a thread of its own. */
 typedef struct call {
     uint64_t txn;
@@ -311,23 +309,10 @@ static void *make(void *context) {
     return NULL;
 }
 
-static void sleep_for(long milliseconds) {
-    struct timespec time = { 0, milliseconds * 1000000 };
-    nanosleep(&time, NULL);
-}
-
 /* Begins a call, in a thread, and waits until it waits: whether it does. */
 static bool begins_to_wait(call *call) {
-    nuz_answer told = { .code = NUZ_NO_ASK };
-    if (pthread_create(&call->thread, NULL, make, call) != 0) {
-        return false;
-    }
-    for (int i = 0; told.code == NUZ_NO_ASK && i < LONG; i++) {
-        sleep_for(1);
-        nuz_blockers(nuz_shared_lock(shared), call->txn, NULL, 0, &told);
-        nuz_shared_unlock(shared);
-    }
-    return told.code == 0;
+    return pthread_create(&call->thread, NULL, make, call) == 0
+        && comes_to_wait(shared, call->txn);
 }
 
 static bool ends_with(call *call, uint32_t code) {

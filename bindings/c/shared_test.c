@@ -12,6 +12,7 @@
 
 #include "scarce.h"
 #include "testing.h"
+#include "waiting.h"
 
 static nuz_shared *shared;
 static nuz_answer answer;
@@ -26,9 +27,6 @@ static bool opened(void) {
     nuz_tree *tree;
     return nuz_tree_open(&tree, 0) == 0 && nuz_shared_open(&shared, tree) == 0;
 }
-
-/* Longer than any of these waits, in milliseconds, so that none is for ever. */
-enum { LONG = 20000 };
 
 /* A call of a transaction on a path, in a thread of its own if it may be blocked. */
 typedef struct call {
@@ -59,23 +57,10 @@ static void *list(void *context) {
     return NULL;
 }
 
-static void sleep_for(long milliseconds) {
-    struct timespec time = { 0, milliseconds * 1000000 };
-    nanosleep(&time, NULL);
-}
-
 /* Begins a call that waits, in a thread, and waits until it does. */
 static bool begins_to_wait(call *call) {
-    nuz_answer told = { .code = NUZ_NO_ASK };
-    if (pthread_create(&call->thread, NULL, list, call) != 0) {
-        return false;
-    }
-    while (told.code == NUZ_NO_ASK) {
-        sleep_for(1);
-        nuz_blockers(nuz_shared_lock(shared), call->txn, NULL, 0, &told);
-        nuz_shared_unlock(shared);
-    }
-    return told.code == 0;
+    return pthread_create(&call->thread, NULL, list, call) == 0
+        && comes_to_wait(shared, call->txn);
 }
 
 static bool has_ended(call *call) {
