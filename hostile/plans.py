@@ -21,8 +21,84 @@ Call = collections.namedtuple("Call", "stamp words reply")
 Told = collections.namedtuple("Told", "txn end calls")
 
 
+NOT_OPENED = "'@' needs the number of an earlier step 'open' of the job"
+
+# Files that are no plans. For each: the line that is wrong, or None, and what is said of it.
+MISTAKES = [
+    ("", None, "it has no job"),
+    ("# nothing\n", None, "it has no job"),
+    ("mkdir /a\n", 1, "a step comes before the first job"),
+    ("job\n", 1, "a name is missing after 'job'"),
+    ("job A\ncommit\n", 1, "a name is 1 to 32 of a to z, 0 to 9, '_' and '-'"),
+    ("job a\ncommit\njob a\ncommit\n", 3, "another job has this name"),
+    ("job a b\ncommit\n", 1, "the job around it is not on an earlier line"),
+    ("job a b c\n", 1, "a job has at most two names: its own, and the job around it"),
+    ("strict\njob must a b c\n", 2, "there are words after the two names"),
+    ("strict\nafter a\n", 2, "'after' comes before the first job"),
+    ("# a\njob a\n\nmkdir /a\njob b\n", 2, "the job does not end with 'commit' or 'abort'"),
+    ("job a\nmkdir /a\n", 1, "the job does not end with 'commit' or 'abort'"),
+    ("job a\ncommit\nmkdir /b\n", 3, "a step comes after 'commit' or 'abort'"),
+    ("job a\ncommit now\n", 2, "'subs', 'commit' and 'abort' are lines of their own"),
+    ("job a\nsubs\nsubs\n", 3, "the job has a step 'subs' already"),
+    ("job a\nsubs\ncommit\n", 2, "'subs' is a step of a job without subjobs"),
+    ("job a\ncommit\njob b a\ncommit\n", 1, "the job has subjobs and no step 'subs'"),
+    ("job a\nmakedir /a\n", 2, "not a step: no call has this name and these words"),
+    ("job a\nopen q /a\n", 2, "not a step: no call has this name and these words"),
+    ("job a\nmkdir /a\nclose @1\n", 3, NOT_OPENED),
+    ("job a\nclose @2\nopen wc /a\n", 2, NOT_OPENED),
+    ("job a\nclose @x\n", 2, "not a step: no call has this name and these words"),
+    ("strict\njob a\ntry\n", 3, "only a call may come after 'try'"),
+]
+
+
 def tests():
-    return [("strict plans keep their rules", strict_plans)]
+    mistakes = [("a line that is wrong is named", named_lines), ("so is any", any_lines)]
+    return [("strict plans keep their rules", strict_plans), *mistakes]
+
+
+def named_lines(bench):
+    for text, line, why in MISTAKES:
+        ran, name = run_text(bench, text)
+        place = name if line is None else f"{name}:{line}"
+        if (ran.status, ran.errors) != (1, f"ft_run: {place}: {why}\nfault: BadPlan\n".encode()):
+            return f"{text!r}: {ran}"
+    return None
+
+
+def any_lines(bench):
+    """Plans from which a line is taken, or to which one is given twice, or two change places."""
+    for seed in range(TIMES):
+        chance = random.Random(seed)
+        text = changed(chance, text_of(some_jobs(chance)))
+        ran, name = run_text(bench, text)
+        told = re.escape(f"ft_run: {name}") + r"(:(\d+))?: [^\n]+\nfault: BadPlan\n"
+        found = re.fullmatch(told, ran.errors.decode())
+        is_in = found and (not found[2] or 1 <= int(found[2]) <= text.count("\n"))
+        is_plan = ran.status in (0, 3) and not ran.errors
+        if not is_plan and not (ran.status == 1 and is_in):
+            return f"seed {seed}: {text!r}: {ran}"
+    return None
+
+
+def run_text(bench, text):
+    """Runs the jobs of a text. What came of it, and the name of the file."""
+    with tempfile.NamedTemporaryFile(suffix=".plan") as file:
+        file.write(text.encode())
+        file.flush()
+        return playing.run([bench.program, "jobs", file.name]), file.name
+
+
+def changed(chance, text):
+    lines = text.splitlines(keepends=True)
+    one, other = chance.randrange(len(lines)), chance.randrange(len(lines))
+    change = chance.choice("taken given moved".split())
+    if change == "taken":
+        del lines[one]
+    elif change == "given":
+        lines.insert(other, lines[one])
+    else:
+        lines[one], lines[other] = lines[other], lines[one]
+    return "".join(lines)
 
 
 def strict_plans(bench):

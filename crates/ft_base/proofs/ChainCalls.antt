@@ -1,5 +1,5 @@
 -- The chains at each call's end.
-use Rattle.std.proofs.Common.{◌≡◌, ◌≢◌, ℕ, List, [], ◌∷◌, ◌++◌, drop, length, Option, Some, None, IsSome, Bool, true, false, refl, sym, ap, subst, ◌∙◌}
+use Rattle.std.proofs.Common.{◌≡◌, ◌≢◌, ℕ, List, [], ◌∷◌, ◌++◌, drop, length, Option, Some, None, IsSome, Bool, true, false, refl, sym, ap, subst, ◌∙◌, arith}
 use Rattle.std.specs.Prelude.{not, Result, Ok, Err, OnOk, OnErr, is_some, ◌==◌, option_map, IsTrue, ◌↔◌}
 use Rattle.std.specs.Option.{unwrap_or, option_flatten, option_copied}
 use Rattle.std.specs.Borrow.{Bor}
@@ -11,8 +11,8 @@ use Rattle.slab.specs.Slab.{Slab, get, with_value, Updates}
 use Rattle.slab.proofs.SlabLemmas.{Updates-with_value}
 use Rattle.ft_base.specs.declared.node.Node.{Node}
 use Rattle.ft_base.specs.declared.node.Ends.{Ends}
-use Rattle.ft_base.specs.Chains.{Lists, list_in, spliced}
-use Rattle.ft_base.specs.Linked.{AllEnds, ends_in, node, with_next, lists_of, AreChainedBy, AreChained}
+use Rattle.ft_base.specs.OwnedLists.{Lists, list_in, spliced}
+use Rattle.ft_base.specs.Linked.{AllEnds, ends_in, node, with_next, lists_of, HasKey, AreChainedBy, AreChained}
 use Rattle.ft_base.proofs.ChainShape.{by_number, values, put, seen, list-seen, closed-chained, closed-seen}
 use Rattle.ft_base.proofs.ChainMoves.{Made, one-made, set-by, none-by, some-by}
 
@@ -53,6 +53,13 @@ module _ {T : Type 0} where
 
   pub made-in : (s : Slab (Node T)) (ends ends' : AllEnds) (m : Lists T) → ends' ≡ ends → Made s ends m → Made s ends' m
   made-in s ends ends' m is made = subst (λ e. Made s e m) (sym is) made
+
+  no-key : (ps : List (ℕ × T)) (k : ℕ) → values ps ≡ [] → HasKey ps k → ⊥
+  no-key [] k empty i = i
+  no-key (p ∷ ps) k empty i = absurd (filled (ap length empty))
+    where
+      filled : length (values (p ∷ ps)) ≡ 0 → ⊥
+      filled e = omega arith
 
   no-chains-by : (s : Slab (Node T)) (ends : AllEnds) → ends ≡ finite.empty → AreChainedBy (get s) ends (λ _. [])
   no-chains-by s ends is = record {
@@ -110,6 +117,12 @@ module _ {T : Type 0} where
     closed u empty =
         let g = closed-chained s ends h.0 h.1 u (sym (list-seen s ends h.0 h.1 u) ∙ empty) in
         record { sound = (h.0, g); is = closed-seen s ends h.0 h.1 u (seen s (finite.remove ends u) h.0 g) }
+
+    -- all lists are empty but one, and then that too
+    pub cleared : (s' : Slab (Node T)) (u : ℕ) → ((q : ℕ) → q ≢ u → list_in (lists_of s ends) q ≡ []) → Made s' (finite.insert ends u None) (finite.insert (lists_of s ends) u [])
+    cleared s' u alone =
+        let one = one-made s s' ends h.0 h.1 u [] None refl tt tt (λ q k ne i. absurd (no-key (h.0 q) k (sym (list-seen s ends h.0 h.1 q) ∙ alone q ne) i)) (λ q k ne i j. absurd i) in
+        record { sound = (put h.0 u [], one.0); is = one.1 }
 
     not-open : (u : ℕ) → is_some (finite.get ends u) ≡ false → finite.get ends u ≡ None
     not-open u none = by_value (finite.get ends u) none

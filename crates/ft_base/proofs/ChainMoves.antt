@@ -8,7 +8,7 @@ use Rattle.std.proofs.lemmas.Bool.Decides.{nat_tests}
 use Rattle.slab.specs.Slab.{Slab, get, Updates}
 use Rattle.ft_base.specs.declared.node.Node.{Node}
 use Rattle.ft_base.specs.declared.node.Ends.{Ends}
-use Rattle.ft_base.specs.Chains.{Lists, list_in, first_moved, spliced}
+use Rattle.ft_base.specs.OwnedLists.{Lists, list_in, first_moved, spliced}
 use Rattle.ft_base.specs.Linked.{AllEnds, first_of, last_or, ends_from, with_front, joined_ends, ends_in, node, with_next, lists_of, head_key, last_key, ends_of, Linked, HasKey, Single, AreChainedBy, AreChained}
 use Rattle.ft_base.proofs.ChainShape.{by_number, values, put, first-ends, last_or-ends, from-ends, last-append, values-append, is-there, frame, has-parts, has-last, single-append, linked-append, seen, list-seen, one-chained, one-seen}
 

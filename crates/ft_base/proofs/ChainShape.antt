@@ -15,7 +15,7 @@ use borrow.Author.Tests.{eqb-true}
 use Rattle.slab.specs.Slab.{Slab, get}
 use Rattle.ft_base.specs.declared.node.Node.{Node}
 use Rattle.ft_base.specs.declared.node.Ends.{Ends}
-use Rattle.ft_base.specs.Chains.{list_in}
+use Rattle.ft_base.specs.OwnedLists.{list_in}
 use Rattle.ft_base.specs.Linked.{AllEnds, first_of, last_or, ends_from, with_next, then_on, walk, walked, lists_of, head_key, last_key, ends_of, Linked, HasKey, Single, AreChainedBy}
 
 equal : (r : Ordering) → is_eq r ≡ true → r ≡ Equal

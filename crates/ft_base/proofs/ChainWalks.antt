@@ -7,7 +7,7 @@ use Rattle.std.proofs.lemmas.Bool.{false≢true}
 use Rattle.slab.specs.Slab.{Slab, get}
 use Rattle.ft_base.specs.declared.node.Node.{Node}
 use Rattle.ft_base.specs.declared.node.Ends.{Ends}
-use Rattle.ft_base.specs.Chains.{Lists, list_in}
+use Rattle.ft_base.specs.OwnedLists.{Lists, list_in}
 use Rattle.ft_base.specs.Linked.{AllEnds, first_of, node, walk, lists_of, head_key, Linked, Single, AreChained, LeadsOn}
 use Rattle.ft_base.proofs.ChainShape.{values, first-ends, walk-linked, room, list-seen}
 

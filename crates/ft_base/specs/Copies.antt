@@ -1,9 +1,9 @@
--- When one map is a clone of another (as Rust's `Clone`).
+-- Whether one map is a clone of another (as Rust's `Clone`).
 use Rattle.std.specs.Prelude.{ℕ, Option, Some, None}
 use Rattle.std.specs.Ordering.{nat_cmp}
 use Rattle.std.specs.FinMap as finite
 
--- there is a value in both, and they are so related, or in neither
+-- both have a value, and the two values are related, or neither has one
 abbrev pub Both : {V : Type 0} → (V → V → Type 0) → Option V → Option V → Type 0
 Both R None None = Unit {0}
 Both R None (Some y) = ⊥

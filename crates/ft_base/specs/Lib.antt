@@ -1,9 +1,11 @@
+-- What callers cite.
 pub mod Table
-pub mod Few
 pub mod Pairs
 pub mod Copies
-pub mod Chains
+pub mod OwnedLists
 pub mod Linked
-pub mod Paged
 pub mod Lent
 pub mod Roomy
+-- What the crate keeps true of itself.
+pub mod ShortList
+pub mod Paged

@@ -1,4 +1,4 @@
--- A map from numbers whose values stand in pages, each at the place of its number.
+-- A map from numbers with its values in pages, each at the place of its number.
 use Rattle.std.specs.Prelude.{◌≡◌, ◌≤◌, ◌⊎◌, ◌+◌, ◌-◌, ◌*◌, ℕ, suc, drop, List, [], ◌∷◌, ◌++◌, length, replicate, Option, Some, None}
 use Rattle.std.specs.Ordering.{nat_cmp}
 use Rattle.std.specs.List.{AllByRecursion}
@@ -6,7 +6,7 @@ use Rattle.std.specs.FinMap as finite
 use Rattle.ft_base.specs.declared.TheConstants.{PAGE_LEN, GROUP_LEN, GROUP_PAGES, MOST_GROUPS}
 
 module _ {V : Type 0} where
-  -- the values of the places, from this number on, with their numbers
+  -- the values of the places with their numbers, from this number on
   abbrev pub numbered : ℕ → List (Option V) → List (ℕ × V)
   numbered k [] = []
   numbered k (None ∷ places) = numbered (suc k) places
@@ -20,7 +20,7 @@ module _ {V : Type 0} where
   abbrev pub blank : List (Option V)
   blank = replicate PAGE_LEN None
 
-  -- the places of a page: those that stand in memory, or all without a value where none does
+  -- the places of a page: those that are in memory, or all without a value if none is
   abbrev pub all_places : List (Option V) → List (Option V)
   all_places [] = blank
   all_places (place ∷ places) = place ∷ places
@@ -31,11 +31,11 @@ module _ {V : Type 0} where
   valued (None ∷ places) = valued places
   valued (Some value ∷ places) = suc (valued places)
 
-  -- all places of a page stand in memory, or none
+  -- all places of a page are in memory, or none is
   abbrev pub IsWhole : List (Option V) → Type 0
   IsWhole places = (length places ≡ 0) ⊎ (length places ≡ PAGE_LEN)
 
-  -- and so many have a value
+  -- all places of a page are in memory, or none is, and `used` of them have a value
   pub record IsPage (used : ℕ) (places : List (Option V)) : Type 0 where
     pub whole : IsWhole places
     pub counted : used ≡ valued places
@@ -45,7 +45,7 @@ module _ {V : Type 0} where
   joined_places [] = []
   joined_places (page ∷ pages) = page ++ joined_places pages
 
-  -- each has so many places
+  -- each has n places
   abbrev pub HaveLen : ℕ → List (List (Option V)) → Type 0
   HaveLen n = AllByRecursion (λ places. length places ≡ n)
 
@@ -53,18 +53,18 @@ module _ {V : Type 0} where
   abbrev pub blank_group : List (Option V)
   blank_group = replicate GROUP_LEN None
 
-  -- the places of a group: those of its pages, and behind them others without a value
+  -- the places of a group: those of its pages, and after them others without a value
   abbrev pub group_places : List (List (Option V)) → List (Option V)
   group_places pages = joined_places pages ++ replicate (GROUP_LEN - PAGE_LEN * length pages) None
 
-  -- each page has all its places, no page is past the group, and so many places have a value
+  -- each page has all its places, no page is past the group, and `used` places have a value
   pub record IsGroup (used : ℕ) (pages : List (List (Option V))) : Type 0 where
     pub whole : HaveLen PAGE_LEN pages
     pub few : length pages ≤ GROUP_PAGES
     pub counted : used ≡ valued (joined_places pages)
 
-  -- all places, where the groups have those behind the skipped ones: of 0, of the numbers whose
-  -- groups are skipped, which nobody has, and those of the groups
+  -- all places, if the groups come after the skipped ones: that of 0, those of the skipped groups,
+  -- which have no value, and those of the groups
   abbrev pub spread : Option V → ℕ → List (List (Option V)) → List (Option V)
   spread zero skipped groups = zero ∷ (replicate (GROUP_LEN * skipped) None ++ joined_places groups)
 
@@ -83,14 +83,14 @@ module _ {V : Type 0} where
     pub whole : HaveLen GROUP_LEN groups
     pub few : length groups ≤ MOST_GROUPS
 
-  -- so many numbers have a value, and the spare page and group have none
+  -- `count` numbers have a value, and the spare page and group have none
   pub record IsPagedMap (count : ℕ) (groups : List (List (Option V))) (page group : List (Option V)) : Type 0 where
     pub whole : AreGroups groups
     pub counted : count ≡ valued (joined_places groups)
     pub unused : IsSpare page group
 
-  -- the first place with a value, from one on, and its value: with its number it stands before the
-  -- numbers after it. Where there is none, no number is left.
+  -- the first place with a value, from one on, and its value: it comes before the values of all
+  -- later numbers; if there is none, no number is left
   abbrev pub IsFirstFrom : List (Option V) → ℕ → Option (ℕ × V) → Type 0
   IsFirstFrom places from None = (base : ℕ) → numbered (base + from) (drop from places) ≡ []
   IsFirstFrom places from (Some (place, value)) =

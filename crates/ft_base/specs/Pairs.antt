@@ -1,4 +1,4 @@
--- What pairs of a number and a value that is lent to be read show.
+-- The values of pairs of a number and a value that is lent to be read.
 use Rattle.std.specs.Prelude.{ℕ, List, map}
 use Rattle.std.specs.Borrow.{Bor}
 

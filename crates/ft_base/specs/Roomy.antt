@@ -1,20 +1,20 @@
--- A list that has room for more, and the pages that it stands in.
+-- A list that has room for more, and the pages that hold it.
 use Rattle.std.specs.Prelude.{◌≡◌, ◌≤◌, ℕ, List, [], ◌∷◌, ◌++◌, length, vec_capacity, refl}
 use Rattle.std.specs.Coded.{Coded, code_by, coded×, coded_ℕ, coded_list}
 use Rattle.std.specs.Global.{Vec}
 use Rattle.std.specs.List.{AllByRecursion}
 use Rattle.ft_base.specs.declared.TheConstants.{LIST_PAGE_LEN, MOST_LIST_PAGES}
 
--- a list, and how many values more it has room for
+-- a list, and for how many more values it has room
 pub record RoomyList : Type 0 where
   pub items : List ℕ
   pub room : ℕ
 
--- a code of it, which a model needs
+-- a code for such lists, which a model needs
 abbrev pub coded_roomy : Coded RoomyList
 coded_roomy = code_by (List ℕ × ℕ) (coded× (coded_list coded_ℕ) coded_ℕ) (λ r. (r.items, r.room)) (λ p. record { items = p.0; room = p.1 }) (λ _. refl)
 
--- what pages have, one after another
+-- the values of the pages, one after another
 abbrev pub joined_items : List (Vec ℕ) → List ℕ
 joined_items [] = []
 joined_items (page ∷ pages) = page.items ++ joined_items pages
@@ -23,7 +23,7 @@ joined_items (page ∷ pages) = page.items ++ joined_items pages
 abbrev pub AreFull : List (Vec ℕ) → Type 0
 AreFull = AllByRecursion (λ page. length page.items ≡ LIST_PAGE_LEN)
 
--- All pages but the last are full, and the last is no longer than a page, nor its memory.
+-- all pages except the last are full, and neither the last nor its memory is longer than a page
 pub record IsPagedList (pages : List (Vec ℕ)) (last : Vec ℕ) : Type 0 where
   pub full : AreFull pages
   pub few : length pages ≤ MOST_LIST_PAGES

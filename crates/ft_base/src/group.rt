@@ -1,4 +1,4 @@
-// A group of pages of a table from numbers.
+// A group of pages of a `PagedTable` or a `PagedMap`.
 ghost use Rattle.std.specs.Prelude.{◌≡◌, ◌<◌, ◌≤◌, ◌+◌, ◌*◌, ◌++◌, None, Some, length, set, get_or, replicate, IsSome, IsOk, IfSome, IfOk, OnOk, OnErr};
 ghost use Rattle.ft_base.specs.declared.TheConstants.{PAGE_LEN as page_len, GROUP_LEN as group_len, GROUP_PAGES as group_pages};
 ghost use Rattle.ft_base.specs.Paged.{blank, blank_group, valued, joined_places, group_places, HaveLen, IsFirstFrom, IsSpare};
@@ -10,13 +10,15 @@ use std::alloc::{AllocError, Global};
 use std::marker::Model;
 use std::mem::{replace, swap};
 
-/// A place for each of so many numbers, in pages. While none has a value, it takes no memory, but
-/// for what is kept in a spare page and a spare group.
+/// A place for each of `GROUP_LEN` numbers, in pages. While no place has a value, it takes no
+/// memory. The exceptions are what a spare page and a spare group keep, and a list of pages that a
+/// failed insert left.
 #[derive(Drop)]
 pub(crate) struct Group<V> {
-    // How many places have a value.
+    /// How many places have a value.
     used: usize,
-    // The pages up to the last that was given a value, or perhaps none where none has one.
+    /// All pages up to the last one with a value, and perhaps more. If no place has a value, there
+    /// may be none.
     pages: Vec<Page<V>>,
 }
 
@@ -42,7 +44,7 @@ pub(crate) struct Spare<V> {
 }
 
 impl<V: Copy> Group<V> {
-    /// No place has a value. Takes no memory.
+    /// Returns a group in which no place has a value. Takes no memory.
     pub(crate) fn new(alloc: Global) -> Group<V>
         ensures { result ≡ blank_group }
     {
@@ -52,7 +54,7 @@ impl<V: Copy> Group<V> {
         }
     }
 
-    /// The value of a place, if it has one.
+    /// Returns the value of a place, if it has one.
     pub(crate) fn get(&self, place: usize) -> Option<V>
         requires { place < group_len }
         ensures { result ≡ get_or self.now place None }
@@ -60,8 +62,8 @@ impl<V: Copy> Group<V> {
         self.pages.get(place / PAGE_LEN)?.get(place % PAGE_LEN)
     }
 
-    /// Sets the value of a place. Only where none had a value can it want memory, and then nothing
-    /// has changed.
+    /// Sets the value of a place. Takes memory only if the place had no value. If there is not
+    /// enough memory, nothing has changed.
     pub(crate) fn insert(
         &mut self,
         spare: &mut Spare<V>,
@@ -94,8 +96,8 @@ impl<V: Copy> Group<V> {
         self.pages[place / PAGE_LEN].set(place % PAGE_LEN, value);
     }
 
-    /// Takes the value of a place away, if it has one. Where a page or the group has none any more,
-    /// the memory goes to the spare one, or back. Takes no memory.
+    /// Removes the value of a place, if it has one. If this leaves a page or the group without a
+    /// value, its memory goes to the spare one or is freed. Takes no memory.
     pub(crate) fn remove(&mut self, spare: &mut Spare<V>, place: usize)
         requires place { place < group_len }
         requires spare { IsSpare spare.old.page spare.old.group }
@@ -112,7 +114,7 @@ impl<V: Copy> Group<V> {
         }
     }
 
-    /// The first place with a value, from this one on, and its value.
+    /// Returns the first place with a value, from this one on, and its value.
     pub(crate) fn first_from(&self, from: usize) -> Option<(usize, V)>
         ensures first { IsFirstFrom self.now from result }
         ensures place { IfSome result (λ found. found.0 < group_len) }
@@ -125,7 +127,7 @@ impl<V: Copy> Group<V> {
         None
     }
 
-    /// Another group of the same values.
+    /// Returns another group with the same values. Out of memory is the only error.
     pub(crate) fn copied(&self) -> Result<Group<V>, AllocError>
         ensures { IfOk result (λ copy. copy ≡ self.now) }
     {
@@ -139,8 +141,8 @@ impl<V: Copy> Group<V> {
         })
     }
 
-    /// Gives the list of the pages, none of which has a value, to the spare group, or back where
-    /// that has one. Takes no memory.
+    /// Gives the list of pages to the spare group, or frees it if the spare group has one. No page
+    /// has a value. Takes no memory.
     fn free(&mut self, spare: &mut Group<V>)
         requires places { self.old ≡ blank_group }
         requires spare { spare.old ≡ blank_group }
@@ -155,8 +157,8 @@ impl<V: Copy> Group<V> {
     }
 }
 
-/// Has the list of the pages reach up to this page; where there is none, that of the spare group
-/// does from now on, or a new one. Nothing is seen of it.
+/// Makes the list of pages reach this page. If the list is empty, it first takes that of the spare
+/// group. No value changes, even on an error.
 fn have_page<V: Copy>(
     pages: &mut Vec<Page<V>>,
     spare: &mut Group<V>,
@@ -169,7 +171,8 @@ fn have_page<V: Copy>(
     ensures pages { HaveLen page_len pages.new.items }
     ensures few { length pages.new.items ≤ group_pages }
     ensures same { group_places pages.new.items ≡ group_places pages.old.items }
-    ensures valued { valued (joined_places pages.new.items) ≡ valued (joined_places pages.old.items) }
+    ensures valued { valued (joined_places pages.new.items)
+        ≡ valued (joined_places pages.old.items) }
     ensures there { OnOk result (page < length pages.new.items) }
     ensures had { page < length pages.old.items → IsOk result }
     ensures spare { spare.new ≡ blank_group }
@@ -178,7 +181,7 @@ fn have_page<V: Copy>(
     make_page(pages, page)
 }
 
-/// Where there is no page, takes those of the spare group. Nothing is seen of it.
+/// If there is no page, takes the pages of the spare group. No value changes.
 fn take_spare<V: Copy>(pages: &mut Vec<Page<V>>, spare: &mut Group<V>)
     requires pages { HaveLen page_len pages.old.items }
     requires few { length pages.old.items ≤ group_pages }
@@ -186,7 +189,8 @@ fn take_spare<V: Copy>(pages: &mut Vec<Page<V>>, spare: &mut Group<V>)
     ensures pages { HaveLen page_len pages.new.items }
     ensures few { length pages.new.items ≤ group_pages }
     ensures same { group_places pages.new.items ≡ group_places pages.old.items }
-    ensures valued { valued (joined_places pages.new.items) ≡ valued (joined_places pages.old.items) }
+    ensures valued { valued (joined_places pages.new.items)
+        ≡ valued (joined_places pages.old.items) }
     ensures there { length pages.old.items ≤ length pages.new.items }
     ensures spare { spare.new ≡ blank_group }
 {
@@ -195,8 +199,8 @@ fn take_spare<V: Copy>(pages: &mut Vec<Page<V>>, spare: &mut Group<V>)
     }
 }
 
-/// Makes this page, without a value, and those before it, where there are none. Nothing is seen of
-/// it.
+/// Makes this page and those before it, without values, if they do not exist. No value changes,
+/// even on an error.
 fn make_page<V: Copy>(pages: &mut Vec<Page<V>>, page: usize) -> Result<(), Memory>
     requires page { page < group_pages }
     requires pages { HaveLen page_len pages.old.items }
@@ -204,7 +208,8 @@ fn make_page<V: Copy>(pages: &mut Vec<Page<V>>, page: usize) -> Result<(), Memor
     ensures pages { HaveLen page_len pages.new.items }
     ensures few { length pages.new.items ≤ group_pages }
     ensures same { group_places pages.new.items ≡ group_places pages.old.items }
-    ensures valued { valued (joined_places pages.new.items) ≡ valued (joined_places pages.old.items) }
+    ensures valued { valued (joined_places pages.new.items)
+        ≡ valued (joined_places pages.old.items) }
     ensures there { OnOk result (page < length pages.new.items) }
     ensures had { page < length pages.old.items → IsOk result }
 {
@@ -216,7 +221,7 @@ fn make_page<V: Copy>(pages: &mut Vec<Page<V>>, page: usize) -> Result<(), Memor
     Ok(())
 }
 
-/// Makes pages without values behind all others.
+/// Appends pages without values. If there is not enough memory, nothing has changed.
 fn add_pages<V: Copy>(pages: &mut Vec<Page<V>>, count: usize) -> Result<(), Memory>
     ensures ok { OnOk result (pages.new.items ≡ pages.old.items ++ replicate count blank) }
     ensures err { OnErr result (pages.new.items ≡ pages.old.items) }
@@ -229,7 +234,7 @@ fn add_pages<V: Copy>(pages: &mut Vec<Page<V>>, count: usize) -> Result<(), Memo
     Ok(())
 }
 
-/// Makes groups without values behind all others.
+/// Appends groups without values. If there is not enough memory, nothing has changed.
 pub(crate) fn add_groups<V: Copy>(groups: &mut Vec<Group<V>>, count: usize) -> Result<(), Memory>
     ensures ok { OnOk result (groups.new.items ≡ groups.old.items ++ replicate count blank_group) }
     ensures err { OnErr result (groups.new.items ≡ groups.old.items) }

@@ -1,10 +1,11 @@
-// Want of memory, as an error of its own.
+// The out-of-memory error.
 use std::alloc::{AllocError, AllocFailed};
 use thiserror::Error;
 
-/// There was no memory left.
+/// There was not enough memory.
 ///
-/// `?` makes it of what a failed allocation answers. A value that found no place is dropped.
+/// `?` converts the errors of failed allocations into it. It drops a value for which there was no
+/// place.
 #[derive(Clone, Copy, Debug, PartialEq, Eq, Error)]
 #[error("Memory")]
 pub struct Memory;

@@ -1,4 +1,4 @@
-// A page of a table from numbers.
+// A page of a `PagedTable` or a `PagedMap`.
 ghost use Rattle.std.specs.Prelude.{◌≡◌, ◌<◌, ◌≤◌, ◌+◌, ◌++◌, None, Some, length, set, get_or, replicate, IsSome, IsOk, IfOk, OnOk, OnErr};
 ghost use Rattle.ft_base.specs.declared.TheConstants.{PAGE_LEN as page_len};
 ghost use Rattle.ft_base.specs.Paged.{blank, all_places, valued, IsWhole};
@@ -9,13 +9,13 @@ use std::alloc::{AllocError, Global};
 use std::marker::Model;
 use std::mem::{replace, swap};
 
-/// A place for each of so many numbers. While none has a value, it takes no memory, but for what is
-/// kept in a spare page.
+/// A place for each of `PAGE_LEN` numbers. While no place has a value, it takes no memory, except
+/// what a spare page keeps.
 #[derive(Drop)]
 pub(crate) struct Page<V> {
-    // How many places have a value.
+    /// How many places have a value.
     used: usize,
-    // All places or, where none has a value, perhaps none.
+    /// All places. If no place has a value, there may be none.
     places: Vec<Option<V>>,
 }
 
@@ -34,7 +34,7 @@ impl<V> Model for Page<V> {
 }
 
 impl<V: Copy> Page<V> {
-    /// No place has a value. Takes no memory.
+    /// Returns a page in which no place has a value. Takes no memory.
     pub(crate) fn new(alloc: Global) -> Page<V>
         ensures { result ≡ blank }
     {
@@ -44,7 +44,7 @@ impl<V: Copy> Page<V> {
         }
     }
 
-    /// The value of a place, if it has one.
+    /// Returns the value of a place, if it has one.
     pub(crate) fn get(&self, place: usize) -> Option<V>
         requires { place < page_len }
         ensures { result ≡ get_or self.now place None }
@@ -52,8 +52,8 @@ impl<V: Copy> Page<V> {
         self.places.get(place).copied().flatten()
     }
 
-    /// Sets the value of a place. Only where none had a value and the spare page has no memory can
-    /// it want some, and then nothing has changed.
+    /// Sets the value of a place. Takes memory only if the place had no value and the spare page
+    /// has no memory. If there is not enough memory, nothing has changed.
     pub(crate) fn insert(
         &mut self,
         spare: &mut Page<V>,
@@ -83,8 +83,8 @@ impl<V: Copy> Page<V> {
         self.places[place] = Some(value);
     }
 
-    /// Takes the value of a place away, if it has one. Where no place has one any more, the memory
-    /// goes to the spare page, or back. Takes no memory.
+    /// Removes the value of a place, if it has one. If this leaves no place with a value, the
+    /// memory goes to the spare page or is freed. Takes no memory.
     pub(crate) fn remove(&mut self, spare: &mut Page<V>, place: usize)
         requires place { place < page_len }
         requires spare { spare.old ≡ blank }
@@ -103,7 +103,7 @@ impl<V: Copy> Page<V> {
 }
 
 impl<V: Copy> Page<V> {
-    /// Another page of the same values.
+    /// Returns another page with the same values. Out of memory is the only error.
     pub(crate) fn copied(&self) -> Result<Page<V>, AllocError>
         ensures { IfOk result (λ copy. copy ≡ self.now) }
     {
@@ -114,8 +114,8 @@ impl<V: Copy> Page<V> {
         })
     }
 
-    /// Gives the memory of the places, none of which has a value, to the spare page, or back where
-    /// that has some. Takes no memory.
+    /// Gives the memory of the places to the spare page, or frees it if the spare page has some. No
+    /// place has a value. Takes no memory.
     fn free(&mut self, spare: &mut Page<V>)
         requires places { self.old ≡ blank }
         requires spare { spare.old ≡ blank }
@@ -130,8 +130,8 @@ impl<V: Copy> Page<V> {
     }
 }
 
-/// Has all places of a page stand in memory; where they don't, those of the spare page do from now
-/// on, or new ones. Nothing is seen of it.
+/// Puts all places of a page in memory, if they are not. They take the memory of the spare page, if
+/// it has some, or else new memory. No value changes.
 fn have_places<V: Copy>(places: &mut Vec<Option<V>>, spare: &mut Page<V>) -> Result<(), Memory>
     requires whole { IsWhole places.old.items }
     requires spare { spare.old ≡ blank }
@@ -151,7 +151,8 @@ fn have_places<V: Copy>(places: &mut Vec<Option<V>>, spare: &mut Page<V>) -> Res
     Ok(())
 }
 
-/// Makes all places of a page, without values.
+/// Appends all places of a page, without values. If there is not enough memory, nothing has
+/// changed.
 fn add_places<V: Copy>(places: &mut Vec<Option<V>>) -> Result<(), Memory>
     ensures ok { OnOk result (places.new.items ≡ places.old.items ++ blank) }
     ensures err { OnErr result (places.new.items ≡ places.old.items) }

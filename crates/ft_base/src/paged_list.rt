@@ -9,17 +9,18 @@ use std::alloc::Global;
 use std::marker::Model;
 use std::mem::replace;
 
-/// A list of numbers that grows by pages, which clauses see as a list with room for so many more.
+/// A list of numbers that grows by pages. Clauses see it as a list with room for some more numbers.
 ///
-/// A page is 512 numbers in 4,096 bytes. The first grows as a `Vec` does, so a short list stays
-/// short, and each other is made whole; no page moves or is copied when another is made. So a long
-/// list takes 8 bytes a number, the rest of one page, and at most 48 bytes a page for the list of
-/// the pages. No number of pages is past 2^54: more are refused for want of memory.
+/// A page is 512 numbers in 4,096 bytes. The first page grows as a `Vec` does, so a short list
+/// stays short. Each other page is made whole. No page moves or is copied when another is made. A
+/// long list therefore takes 8 bytes a number and the rest of one page. The list of the pages takes
+/// at most 48 bytes a page. There are at most 2^54 pages before the last: one more is refused as
+/// out of memory.
 #[derive(Drop)]
 pub struct PagedList {
-    // The pages that are full.
+    /// The pages that are full.
     full: Vec<Vec<u64>>,
-    // The page that grows.
+    /// The page that grows.
     last: Vec<u64>,
 }
 
@@ -31,13 +32,16 @@ impl Model for PagedList {
 
     ghost coded = { coded_roomy };
 
-    ghost view = { λ a. record { items = joined_items a.full.items ++ a.last.items; room = vec_capacity a.last - vec_len a.last } };
+    ghost view = { λ a. record {
+      items = joined_items a.full.items ++ a.last.items;
+      room = vec_capacity a.last - vec_len a.last;
+    } };
 
     ghost invariant = { λ a. IsPagedList a.full.items a.last };
 }
 
 impl PagedList {
-    /// The empty list. Takes no memory.
+    /// Returns the empty list. Takes no memory.
     pub fn new(alloc: Global) -> PagedList
         ensures { result ≡ record { items = []; room = 0 } }
     {
@@ -47,14 +51,14 @@ impl PagedList {
         }
     }
 
-    /// How many numbers there are.
+    /// Returns how many numbers there are.
     pub fn len(&self) -> usize
         ensures { result ≡ length self.now.items }
     {
         self.full.len() * LIST_PAGE_LEN + self.last.len()
     }
 
-    /// The number at a place.
+    /// Returns the number at a place.
     pub fn get(&self, place: usize) -> u64
         requires { place < length self.now.items }
         ensures { result ≡ slice_index self.now.items place }
@@ -80,8 +84,8 @@ impl PagedList {
         }
     }
 
-    /// Makes room for one more number, where there is none. Only then can it want memory, and an
-    /// error changes nothing.
+    /// Makes room for one more number, if there is none. Takes memory only in this case. If there
+    /// is not enough memory, nothing has changed.
     pub fn reserve(&mut self) -> Result<(), Memory>
         ensures same { self.new.items ≡ self.old.items }
         ensures room { OnOk result (0 < self.new.room) }
@@ -98,28 +102,33 @@ impl PagedList {
         }
     }
 
-    /// Puts a number behind all others, where there is room. Takes no memory.
+    /// Appends a number, for which there is room. Takes no memory.
     pub fn push_reserved(&mut self, value: u64)
         requires { 0 < self.old.room }
-        ensures { self.new ≡ record { items = self.old.items ++ value ∷ []; room = self.old.room - 1 } }
+        ensures { self.new ≡ record {
+          items = self.old.items ++ value ∷ [];
+          room = self.old.room - 1;
+        } }
     {
         self.last.push_reserved(value);
     }
 
-    /// What takes the memory of the list.
+    /// Returns the allocator of the list.
     pub fn allocator(&self) -> Global {
         *self.last.allocator()
     }
 }
 
-/// Puts the page that grew to the full ones, and begins another, whose memory stands.
+/// Moves the last page to the full ones, and begins another with room for a whole page. On an
+/// error, nothing has changed.
 fn begin_page(full: &mut Vec<Vec<u64>>, last: &mut Vec<u64>) -> Result<(), Memory>
     requires full { AreFull full.old.items }
     requires last { length last.old.items ≡ list_page_len }
     requires few { length full.old.items ≤ most_list_pages }
     ensures full { AreFull full.new.items }
     ensures few { length full.new.items ≤ most_list_pages }
-    ensures same { joined_items full.new.items ++ last.new.items ≡ joined_items full.old.items ++ last.old.items }
+    ensures same { joined_items full.new.items ++ last.new.items ≡ joined_items full.old.items
+        ++ last.old.items }
     ensures last { OnOk result (last.new.items ≡ []) }
     ensures room { OnOk result (vec_capacity last.new ≡ list_page_len) }
     ensures full_kept { OnErr result (full.new.items ≡ full.old.items) }
@@ -135,7 +144,8 @@ fn begin_page(full: &mut Vec<Vec<u64>>, last: &mut Vec<u64>) -> Result<(), Memor
     Ok(())
 }
 
-/// Makes a page that has no room as large again, up to a whole one.
+/// Doubles the room of a page that has none left, but to no more than a whole page. On an error,
+/// nothing has changed.
 fn grow_page(page: &mut Vec<u64>) -> Result<(), Memory>
     requires less { length page.old.items < list_page_len }
     requires within { vec_capacity page.old ≤ list_page_len }

@@ -12,17 +12,17 @@ use crate::{GROUP_LEN, MOST_GROUPS};
 use std::alloc::{AllocError, Global};
 use std::marker::Model;
 
-/// A map from numbers of 32 bits that are given one after another, which clauses see as a finite
-/// map.
+/// A map from numbers of 32 bits that are given one after another. Clauses see it as a finite map.
 ///
-/// Each value stands at its number in a page of 64, and each page in a group of 64, so nothing is
-/// looked for, and each call takes the same time however many numbers there are. A group of whose
-/// numbers none has a value takes 32 bytes, up to the last that was given one: so a number without
-/// a value takes a hundredth of a byte. In another group, a page of whose numbers none has a value
-/// takes 32 bytes, up to the last page that was given one.
+/// Each value is at its number in a page of 64, and each page is in a group of 64, so nothing is
+/// searched for. Except when groups are made or copied, a call takes the same time however many
+/// numbers there are. A group without a value takes 32 bytes, up to the last group that an insert
+/// reached. A number without a value therefore takes about a hundredth of a byte. In another group,
+/// a page without a value takes 32 bytes, up to the last page that an insert reached. A group may
+/// reuse the pages of one that lost its values.
 #[derive(Drop)]
 pub struct PagedMap<V> {
-    // How many numbers have a value.
+    /// How many numbers have a value.
     count: usize,
     groups: Vec<Group<V>>,
     spare: Spare<V>,
@@ -44,7 +44,7 @@ impl<V> Model for PagedMap<V> {
 }
 
 impl<V: Copy> PagedMap<V> {
-    /// The empty map. Takes no memory.
+    /// Returns the empty map. Takes no memory.
     pub fn new(alloc: Global) -> PagedMap<V>
         ensures { result ≡ finite.empty }
     {
@@ -58,7 +58,7 @@ impl<V: Copy> PagedMap<V> {
         }
     }
 
-    /// The value at a number, if there is one.
+    /// Returns the value at a number, if there is one.
     pub fn get(&self, number: u64) -> Option<V>
         ensures { result ≡ finite.get self.now number }
     {
@@ -66,15 +66,15 @@ impl<V: Copy> PagedMap<V> {
         self.groups.get(spot.group as usize)?.get(spot.place)
     }
 
-    /// How many numbers have a value.
+    /// Returns how many numbers have a value.
     pub fn len(&self) -> usize
         ensures { result ≡ finite.len self.now }
     {
         self.count
     }
 
-    /// Sets the value at a number that has none. A number of more than 32 bits is refused for want
-    /// of memory. What is refused changes nothing.
+    /// Sets the value at a number that has none. A number of more than 32 bits is refused as out of
+    /// memory. On an error, nothing has changed.
     pub fn insert(&mut self, number: u64, value: V) -> Result<(), Memory>
         requires { finite.get self.old number ≡ None }
         ensures ok { OnOk result (self.new ≡ finite.insert self.old number value) }
@@ -91,7 +91,7 @@ impl<V: Copy> PagedMap<V> {
         Ok(())
     }
 
-    /// Takes the value at a number away, if there is one. Takes no memory.
+    /// Removes and returns the value at a number, if there is one. Takes no memory.
     pub fn remove(&mut self, number: u64) -> Option<V>
         ensures value { result ≡ finite.get self.old number }
         ensures after { self.new ≡ finite.remove self.old number }
@@ -103,7 +103,7 @@ impl<V: Copy> PagedMap<V> {
         Some(value)
     }
 
-    /// The numbers with their values, in rising order of the numbers. Takes no memory.
+    /// Returns the numbers with their values, in rising order of the numbers. Takes no memory.
     pub fn entries(&self) -> PagedEntries<'_, V>
         ensures { result ≡ finite.entries self.now }
     {
@@ -134,7 +134,8 @@ impl<V: Copy> Clone for PagedMap<V> {
     }
 }
 
-/// The numbers of a map with their values, in rising order, seen as the list of those that are left.
+/// The numbers of a map with their values, in rising order. Clauses see it as the list of those
+/// that are left.
 #[derive(Drop)]
 pub struct PagedEntries<'a, V> {
     groups: &'a [Group<V>],
@@ -169,7 +170,7 @@ impl<'a, V: Copy> Iterator for PagedEntries<'a, V> {
     }
 }
 
-/// The first number with a value, from this one on, and its value.
+/// Returns the first number with a value, from this one on, and its value.
 fn first_from<V: Copy>(groups: &[Group<V>], from: u64) -> Option<(u64, V)>
     requires { AreGroups groups.now }
     ensures first { IsFirstFrom (joined_places groups.now) from result }
@@ -186,14 +187,14 @@ fn first_from<V: Copy>(groups: &[Group<V>], from: u64) -> Option<(u64, V)>
     None
 }
 
-/// Where the value of a number stands: the number of its group, and its place there.
+/// Where the value of a number is: the number of its group, and its place in the group.
 #[derive(Clone, Copy)]
 struct Spot {
     group: u64,
     place: usize,
 }
 
-/// Where the value of a number stands.
+/// Returns where the value of a number is.
 fn spot_of(number: u64) -> Spot
     ensures number { number ≡ group_len * result.group + result.place }
     ensures place { result.place < group_len }
@@ -204,14 +205,15 @@ fn spot_of(number: u64) -> Spot
     }
 }
 
-/// Makes this group, without a value, and those before it, where there are none. Nothing is seen of
-/// it.
+/// Makes this group and those before it, without values, if they do not exist. No value changes,
+/// even on an error.
 fn have_group<V: Copy>(groups: &mut Vec<Group<V>>, group: usize) -> Result<(), Memory>
     requires room { group < most_groups }
     requires groups { AreGroups groups.old.items }
     ensures groups { AreGroups groups.new.items }
     ensures same { dense (joined_places groups.new.items) ≡ dense (joined_places groups.old.items) }
-    ensures count { valued (joined_places groups.new.items) ≡ valued (joined_places groups.old.items) }
+    ensures count { valued (joined_places groups.new.items)
+        ≡ valued (joined_places groups.old.items) }
     ensures there { OnOk result (group < length groups.new.items) }
 {
     if group < groups.len() {

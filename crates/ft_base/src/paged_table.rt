@@ -11,19 +11,21 @@ use crate::page::Page;
 use std::alloc::Global;
 use std::marker::Model;
 
-/// A map from numbers that are given one after another, which clauses see as a finite map.
+/// A map from numbers that are given one after another. Clauses see it as a finite map.
 ///
-/// Each value stands at its number in a page of 64, and each page in a group of 64, so nothing is
-/// hashed, and each call takes the same time however many numbers there are. A group of whose
-/// numbers none has a value takes 32 bytes, from the first group that was given a value up to the
-/// last: so a number without a value takes a hundredth of a byte, and one far above all others is
-/// refused for want of memory. In another group, a page of whose numbers none has a value takes 32
-/// bytes, up to the last page that was given one. A number whose group is below the first makes
-/// places in front, and moves all other groups.
+/// Each value is at its number in a page of 64, and each page is in a group of 64, so nothing is
+/// hashed. Except when groups are made, a call takes the same time however many numbers there are.
+/// A group without a value takes 32 bytes, from the first group that an insert reached to the last.
+/// A number without a value therefore takes about a hundredth of a byte. A number far above all
+/// others needs all groups up to its own: it is refused if there is not enough memory for them. In
+/// another group, a page without a value takes 32 bytes, up to the last page that an insert
+/// reached. A group may reuse the pages of one that lost its values. A number below the first group
+/// makes new groups in front and moves all others.
 #[derive(Drop)]
 pub struct PagedTable<V> {
+    /// The value at 0.
     zero: Option<V>,
-    // How many groups from that of 1 on have no place.
+    /// How many groups, from that of 1 on, have no place.
     skipped: u64,
     groups: Vec<Group<V>>,
     spare: Spare<V>,
@@ -45,7 +47,7 @@ impl<V> Model for PagedTable<V> {
 }
 
 impl<V: Copy> PagedTable<V> {
-    /// The empty map. Takes no memory.
+    /// Returns the empty map. Takes no memory.
     pub fn new(alloc: Global) -> PagedTable<V>
         ensures { result ≡ finite.empty }
     {
@@ -60,7 +62,7 @@ impl<V: Copy> PagedTable<V> {
         }
     }
 
-    /// The value at a key, if there is one.
+    /// Returns the value at a key, if there is one.
     pub fn get(&self, key: u64) -> Option<V>
         ensures { result ≡ finite.get self.now key }
     {
@@ -72,15 +74,15 @@ impl<V: Copy> PagedTable<V> {
         self.groups.get(group as usize)?.get(spot.place)
     }
 
-    /// Whether a key has a value.
+    /// Returns whether a key has a value.
     pub fn contains(&self, key: u64) -> bool
         ensures { result ≡ finite.contains_key self.now key }
     {
         self.get(key).is_some()
     }
 
-    /// Sets the value at a key. Only a key that has none can want memory, and then nothing has
-    /// changed.
+    /// Sets the value at a key. Takes memory only if the key has no value. If there is not enough
+    /// memory, nothing has changed.
     pub fn insert(&mut self, key: u64, value: V) -> Result<(), Memory>
         ensures ok { OnOk result (self.new ≡ finite.insert self.old key value) }
         ensures err { OnErr result (self.new ≡ self.old) }
@@ -119,7 +121,7 @@ impl<V: Copy> PagedTable<V> {
         }
     }
 
-    /// Takes the value at a key away, if there is one. Takes no memory.
+    /// Removes the value at a key, if there is one. Takes no memory.
     pub fn remove(&mut self, key: u64)
         ensures { self.new ≡ finite.remove self.old key }
     {
@@ -138,14 +140,14 @@ impl<V: Copy> PagedTable<V> {
     }
 }
 
-/// Where the value of a number stands: the number of its group, and its place there.
+/// Where the value of a number is: the number of its group, and its place in the group.
 #[derive(Clone, Copy)]
 struct Spot {
     group: u64,
     place: usize,
 }
 
-/// Where the value of a number from 1 on stands.
+/// Returns where the value of a number from 1 on is.
 fn spot_of(key: u64) -> Spot
     requires { 0 < key }
     ensures key { key ≡ group_len * result.group + result.place + 1 }
@@ -158,7 +160,7 @@ fn spot_of(key: u64) -> Spot
     }
 }
 
-/// Has the groups begin at this one or below it. Nothing is seen of it.
+/// Makes the groups begin at this one or below it. No value changes, even on an error.
 fn begin_at<V: Copy>(
     skipped: &mut u64,
     groups: &mut Vec<Group<V>>,
@@ -166,10 +168,13 @@ fn begin_at<V: Copy>(
 ) -> Result<(), Memory>
     requires { HaveLen group_len groups.old.items }
     ensures groups { HaveLen group_len groups.new.items }
-    ensures same { (zero : Option V) → dense (spread zero skipped.new groups.new.items) ≡ dense (spread zero skipped.old groups.old.items) }
+    ensures same { (zero : Option V)
+        → dense (spread zero skipped.new groups.new.items)
+        ≡ dense (spread zero skipped.old groups.old.items) }
     ensures begun { OnOk result (skipped.new ≤ number) }
     ensures none { skipped.old ≤ number → 0 < length groups.old.items → IsOk result }
-    ensures skipped_kept { skipped.old ≤ number → 0 < length groups.old.items → skipped.new ≡ skipped.old }
+    ensures skipped_kept { skipped.old ≤ number → 0 < length groups.old.items
+        → skipped.new ≡ skipped.old }
     ensures groups_kept { skipped.old ≤ number → groups.new.items ≡ groups.old.items }
 {
     if groups.is_empty() {
@@ -186,13 +191,15 @@ fn begin_at<V: Copy>(
     Ok(())
 }
 
-/// Makes this group, without a value, and those before it, where there are none. Nothing is seen of
-/// it.
+/// Makes this group and those before it, without values, if they do not exist. No value changes,
+/// even on an error.
 fn make_group<V: Copy>(groups: &mut Vec<Group<V>>, group: usize) -> Result<(), Memory>
     requires room { group + 1 < 2 ^ 64 }
     requires groups { HaveLen group_len groups.old.items }
     ensures groups { HaveLen group_len groups.new.items }
-    ensures same { (zero : Option V) → (skipped : ℕ) → dense (spread zero skipped groups.new.items) ≡ dense (spread zero skipped groups.old.items) }
+    ensures same { (zero : Option V) → (skipped : ℕ)
+        → dense (spread zero skipped groups.new.items)
+        ≡ dense (spread zero skipped groups.old.items) }
     ensures there { OnOk result (group < length groups.new.items) }
     ensures none { group < length groups.old.items → IsOk result }
     ensures kept { group < length groups.old.items → groups.new.items ≡ groups.old.items }

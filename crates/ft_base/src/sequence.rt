@@ -1,4 +1,4 @@
-// A list of values that may stand inside a compared value.
+// A list of values that can be part of a compared value.
 ghost use Rattle.std.specs.Prelude.{◌≡◌, ◌==◌, List, [], length};
 ghost use Rattle.std.specs.Coded.{coded_list};
 ghost use Rattle.std.specs.Cmp.Lexicographic.{pointwise, lists_per, lists_equiv};
@@ -9,7 +9,7 @@ use std::marker::Model;
 
 /// A list of values, which clauses see as a list.
 ///
-/// It is made of a `Vec` and gives it back, both without memory.
+/// It is made from a `Vec` and turned back into one. Neither takes memory.
 #[derive(Drop)]
 pub struct Sequence<T> {
     items: Vec<T>,
@@ -24,7 +24,7 @@ impl<T> Model for Sequence<T> {
 }
 
 impl<T> Sequence<T> {
-    /// The empty list. Takes no memory.
+    /// Returns the empty list. Takes no memory.
     pub fn new(alloc: Global) -> Sequence<T>
         ensures { result ≡ [] }
     {
@@ -33,28 +33,28 @@ impl<T> Sequence<T> {
         }
     }
 
-    /// The values, in order.
+    /// Returns the values, in order.
     pub fn as_slice(&self) -> &[T]
         ensures { result.now ≡ self.now }
     {
         self.items.as_slice()
     }
 
-    /// How many there are.
+    /// Returns how many values there are.
     pub fn len(&self) -> usize
         ensures { result ≡ length self.now }
     {
         self.items.len()
     }
 
-    /// Whether there is none.
+    /// Returns whether there is no value.
     pub fn is_empty(&self) -> bool
         ensures { result ≡ (length self.now == 0) }
     {
         self.items.is_empty()
     }
 
-    /// The values as a `Vec`. Takes no memory.
+    /// Returns the values as a `Vec`. Takes no memory.
     pub fn into_vec(self) -> Vec<T>
         ensures { result.items ≡ self }
     {

@@ -10,6 +10,7 @@ ghost use Rattle.std.specs.HashMap.{IsUnique};
 ghost use Rattle.std.specs.Borrow.{sem};
 ghost use Rattle.ft_base.specs.Pairs.{shown};
 
+use crate::SPARSE;
 use crate::memory::Memory;
 use std::alloc::{AllocError, Global};
 use std::collections::HashMap;
@@ -18,8 +19,9 @@ use std::marker::Model;
 
 /// A map from numbers to values, which clauses see as a finite map.
 ///
-/// To find, set or take out a key takes the time to hash it, however many keys there are. A new key
-/// may want a larger table, into which all keys move: shared among the keys, that is constant too.
+/// Finding, setting or removing a key takes the time to hash it, however many keys there are. A new
+/// key may need a larger table, into which all keys move. Shared among the keys, this time is
+/// constant too.
 #[derive(Drop)]
 pub struct Table<V> {
     map: HashMap<u64, V>,
@@ -36,7 +38,7 @@ impl<V> Model for Table<V> {
 impl<V: Drop> Table<V> {
     ghost use Rattle.ft_base.specs.Table.{LendsValue};
 
-    /// The empty map. Takes no memory.
+    /// Returns the empty map. Takes no memory.
     pub fn new(alloc: Global) -> Table<V>
         ensures { result ≡ finite.empty }
     {
@@ -45,22 +47,22 @@ impl<V: Drop> Table<V> {
         }
     }
 
-    /// The value at a key.
+    /// Returns the value at a key, if there is one.
     pub fn get(&self, key: u64) -> Option<&V>
         ensures { option_copied result ≡ finite.get self.now key }
     {
         self.map.get(&key)
     }
 
-    /// Whether a key has a value.
+    /// Returns whether a key has a value.
     pub fn contains(&self, key: u64) -> bool
         ensures { result ≡ finite.contains_key self.now key }
     {
         self.map.contains_key(&key)
     }
 
-    /// The value at a key, to be written: what is left behind the reference is the key's value
-    /// from then on. Takes no memory.
+    /// Returns the value at a key to be written, if there is one. The key keeps what is last
+    /// written through the reference. Takes no memory.
     pub fn get_mut(&mut self, key: u64) -> Option<&mut V>
         ensures* writes_back { sem 𝓛 (LendsValue V.row self.entry key result) }
         ensures value { option_copied_mut result ≡ finite.get self.old key }
@@ -68,21 +70,21 @@ impl<V: Drop> Table<V> {
         self.map.get_mut(&key)
     }
 
-    /// How many keys have a value.
+    /// Returns how many keys have a value.
     pub fn len(&self) -> usize
         ensures { result ≡ finite.len self.now }
     {
         self.map.len()
     }
 
-    /// Whether no key has a value.
+    /// Returns whether no key has a value.
     pub fn is_empty(&self) -> bool
         ensures { result ≡ (finite.len self.now == 0) }
     {
         self.len() == 0
     }
 
-    /// The keys with their values, in no order that is told. Takes no memory.
+    /// Returns the keys with their values, in no specified order. Takes no memory.
     pub fn iter(&self) -> Iter<'_, u64, V>
         ensures entries { IsPermutation (finite.entries self.now) result }
         ensures runs { ShowsInOrder (deref_pair {K = ℕ} {X = V}) }
@@ -90,7 +92,8 @@ impl<V: Drop> Table<V> {
         self.map.iter()
     }
 
-    /// The keys with their values, in rising order of the keys.
+    /// Returns the keys with their values, in rising order of the keys. Out of memory is the only
+    /// error.
     pub fn sorted(&self, alloc: Global) -> Result<Vec<(u64, &V)>, Memory>
         ensures { IfOk result (λ pairs. shown pairs.items ≡ finite.entries self.now) }
     {
@@ -99,9 +102,9 @@ impl<V: Drop> Table<V> {
         Ok(pairs)
     }
 
-    /// Sets the value at a key, and gives back the value that it had.
+    /// Sets the value at a key, and returns the value that it had.
     ///
-    /// Only a key that is new can want memory.
+    /// Takes memory only if the key is new. If there is not enough memory, nothing has changed.
     pub fn insert(&mut self, key: u64, value: V) -> Result<Option<V>, Memory>
         ensures was { IfOk result (λ was. was ≡ finite.get self.old key) }
         ensures ok { OnOk result (self.new ≡ finite.insert self.old key value) }
@@ -111,12 +114,24 @@ impl<V: Drop> Table<V> {
         Ok(self.map.insert(key, value)?)
     }
 
-    /// Takes a key out, and gives back its value. Takes no memory.
+    /// Removes a key, and returns the value that it had. Takes no memory.
     pub fn remove(&mut self, key: u64) -> Option<V>
         ensures value { result ≡ finite.get self.old key }
         ensures after { self.new ≡ finite.remove self.old key }
     {
         self.map.remove(&key)
+    }
+
+    /// Removes all keys. Keeps the room, unless the keys filled less than an eighth of it. Takes no
+    /// memory.
+    pub fn clear(&mut self)
+        ensures { self.new ≡ finite.empty }
+    {
+        let is_sparse = self.map.len() < self.map.capacity() / SPARSE;
+        self.map.clear();
+        if is_sparse {
+            self.map.shrink_to_fit();
+        }
     }
 }
 
@@ -131,7 +146,7 @@ impl<V: Clone + Drop> Clone for Table<V> {
     }
 }
 
-/// The entries of a map, in the order in which they stand.
+/// Returns the entries of a map, in the order in which it keeps them.
 fn listed<V>(alloc: Global, entries: &HashMap<u64, V>) -> Result<Vec<(u64, &V)>, Memory>
     ensures pairs { IfOk result (λ pairs. shown pairs.items ≡ entries.now.entries) }
     ensures apart { OnOk result (IsUnique nat_eq entries.now) }

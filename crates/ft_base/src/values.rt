@@ -5,9 +5,9 @@ use crate::node::Node;
 use slab::Slab;
 use std::marker::Model;
 
-/// The values of one list, the newest first, seen as the list of those that are left.
+/// The values of one list, the newest first. Clauses see it as the list of those that are left.
 ///
-/// Each takes constant time: the owner is looked for once, before the first.
+/// Each step takes constant time: the owner is looked up only once, before the first value.
 #[derive(Drop)]
 pub struct Values<'a, T> {
     pub(crate) nodes: &'a Slab<Node<T>>,

@@ -1,5 +1,5 @@
--- The blocks of a body: which there are, and how the bytes stand in them. A `Body` and a `BodyUndo`
--- keep this true of their fields, and no public clause cites it.
+-- The blocks of a body: which blocks there are, and which bytes they hold. A `Body` and a
+-- `BodyUndo` keep this true of their fields, and no public clause cites it.
 use Rattle.std.specs.Prelude.{◌≡◌, ◌≢◌, ℕ, ◌+◌, ◌-◌, ◌/◌, ◌%◌, ◌<◌, ◌≤◌, ◌==◌, cond, List, [], ◌∷◌, ◌++◌, length, take, drop, map, slice_index, slice_index_or, slice_set}
 use Rattle.std.specs.List.{range_with_len, remove}
 use Rattle.ft_body.specs.declared.TheConstants.{LARGEST_SIZE, BLOCK_SIZE}
@@ -12,20 +12,20 @@ use Rattle.ft_body.specs.Paging.{EndsWithNoZero}
 abbrev pub no_block : Placed
 no_block = record { at = 0; block = [] }
 
--- the block at an index, and none past the end
+-- the block at an index, or one with no bytes past the end
 abbrev pub placed_at : List Placed → ℕ → Placed
 placed_at blocks i = slice_index_or blocks i no_block
 
--- the bytes of the block with a number, and none where it is not there
+-- the bytes of the block with a number, or none if there is no such block
 abbrev pub block_in : List Placed → ℕ → List ℕ
 block_in [] at = []
 block_in (first ∷ more) at = cond (first.at == at) first.block (block_in more at)
 
--- the byte at an index of a body, and zero where nothing is kept
+-- the byte at an index of a body, or zero if no byte is kept there
 abbrev pub byte_of : List Placed → ℕ → ℕ
 byte_of blocks k = slice_index (block_in blocks (k / BLOCK_SIZE)) (k % BLOCK_SIZE)
 
--- so many bytes of some blocks: this is how a body is seen as a list
+-- the first `size` bytes of some blocks: this is how a body is seen as a list
 abbrev pub bytes_of : ℕ → List Placed → List ℕ
 bytes_of size blocks = map (byte_of blocks) (range_with_len 0 size)
 
@@ -35,24 +35,24 @@ pub record IsBlock (block : List ℕ) : Type 0 where
   pub some : 0 < length block
   pub no_end_zero : EndsWithNoZero block
 
--- each is a block, and their numbers rise from some number on
+-- each is a block, and their numbers rise from `least` on
 abbrev pub AreBlocks : ℕ → List Placed → Type 0
 AreBlocks least [] = Unit {0}
 AreBlocks least (first ∷ more) = (least ≤ first.at) × IsBlock first.block × AreBlocks (first.at + 1) more
 
--- blocks hold so many bytes: behind them are zeros
+-- blocks hold `size` bytes: all bytes after them are zeros
 pub record IsBlocked (size : ℕ) (blocks : List Placed) : Type 0 where
   pub limit : size ≤ LARGEST_SIZE
   pub blocks_are : AreBlocks 0 blocks
   pub past : (k : ℕ) → size ≤ k → byte_of blocks k ≡ 0
 
--- where a block with a number would stand
+-- the index where a block with a number is or belongs
 pub record IsPlace (blocks : List Placed) (at i : ℕ) : Type 0 where
   pub within : i ≤ length blocks
   pub before : (k : ℕ) → k < i → (placed_at blocks k).at < at
   pub behind : (k : ℕ) → i ≤ k → k < length blocks → at ≤ (placed_at blocks k).at
 
--- the block with a number became some bytes, and the others are the same
+-- the block with a number became these bytes, and the others are the same
 pub record IsReplaced (old new : List Placed) (at : ℕ) (block : List ℕ) : Type 0 where
   pub there : block_in new at ≡ block
   pub others : (n : ℕ) → n ≢ at → block_in new n ≡ block_in old n
@@ -65,8 +65,8 @@ FitsBack (Changed index undo) after = (index < length after) × ((placed_at afte
 FitsBack (Tail kept blocks) after = (kept ≤ length after) × (kept ≤ length blocks.items)
 FitsBack (Last index) after = index < length after
 
--- the blocks with it put back: a block that was made goes, one that was changed is as before, those
--- from an index on come back, and the last goes back to its place
+-- the blocks after this is put back: a block that was made is removed, and one that was changed is
+-- as before; those from an index on come back, and the last one moves back to its place
 abbrev pub step_back : LostBlocks → List Placed → List Placed
 step_back Nothing after = after
 step_back (Made index) after = remove after index
@@ -74,11 +74,11 @@ step_back (Changed index undo) after = slice_set after index record { at = (plac
 step_back (Tail kept blocks) after = take kept after ++ drop kept blocks.items
 step_back (Last index) after = take index after ++ drop (length after - 1) after ++ take (length after - 1 - index) (drop index after)
 
--- steps bring the blocks from before back, the last step first
+-- steps bring back the blocks from before, the last step first
 abbrev pub Undoes : List LostBlocks → List Placed → List Placed → Type 0
 Undoes [] after before = before ≡ after
 Undoes (first ∷ more) after before = (middle : List Placed) × Undoes more after middle × FitsBack first middle × (before ≡ step_back first middle)
 
--- whatever the steps so far bring back, those so far and the new ones bring back too
+-- whatever the steps up to now bring back, these and the new ones together bring back too
 abbrev pub StillUndoes : List LostBlocks → List LostBlocks → List Placed → List Placed → Type 0
 StillUndoes steps more was now = (before : List Placed) → Undoes steps was before → Undoes more now before

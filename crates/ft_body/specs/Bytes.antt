@@ -2,7 +2,7 @@
 -- write and a change of the length leave. XSH is POSIX.1-2017, System Interfaces.
 use Rattle.std.specs.Prelude.{ℕ, ◌+◌, ◌-◌, List, [], ◌∷◌, ◌++◌, length, take, drop, replicate}
 
--- the bytes from an offset on, at most so many; at or past the end none (XSH read, pread)
+-- the bytes from an offset on, at most `count`; at or past the end there are none (XSH read, pread)
 abbrev pub bytes_at : List ℕ → ℕ → ℕ → List ℕ
 bytes_at bytes offset count = take count (drop offset bytes)
 
@@ -15,20 +15,20 @@ room_at limit offset = limit - offset
 abbrev pub fitting : ℕ → List ℕ → ℕ → List ℕ
 fitting limit bytes offset = take (room_at limit offset) bytes
 
--- the bytes, and behind them zeros up to a length (XSH lseek on gaps, ftruncate)
+-- the bytes, and after them zeros up to a length (XSH lseek on gaps, ftruncate)
 abbrev pub padded : List ℕ → ℕ → List ℕ
 padded bytes size = bytes ++ replicate (size - length bytes) 0
 
--- cut to a length, or padded up to it (XSH ftruncate)
+-- the bytes cut to a length, or padded up to it (XSH ftruncate)
 abbrev pub resized : List ℕ → ℕ → List ℕ
 resized bytes size = take size (padded bytes size)
 
--- the bytes with others laid over them from an offset on; past the end they become longer (XSH
--- write, pwrite)
+-- the bytes with others laid over them from an offset on, which may extend past the end (XSH write,
+-- pwrite)
 abbrev pub laid_over : List ℕ → ℕ → List ℕ → List ℕ
 laid_over bytes offset others = take offset bytes ++ others ++ drop (offset + length others) bytes
 
--- the bytes after others were written at an offset, where zeros fill a gap; to write none changes
+-- the bytes after others were written at an offset, with zeros in a gap; writing none changes
 -- nothing (XSH write, pwrite; lseek on gaps)
 abbrev pub written : List ℕ → ℕ → List ℕ → List ℕ
 written bytes offset [] = bytes

@@ -1,18 +1,18 @@
--- The pages of a body: which are made, and how the bytes stand in them. (Rules of this project.)
+-- The pages of a body: which pages are made, and which bytes they hold. (Rules of this project.)
 use Rattle.std.specs.Prelude.{◌≡◌, ◌≢◌, ℕ, ◌+◌, ◌-◌, ◌*◌, ◌/◌, ◌%◌, ◌<◌, ◌≤◌, ◌==◌, Bool, true, not, ◌⊎◌, List, [], length, take, drop, map, count_by, slice_index, slice_index_or}
 use Rattle.std.specs.List.{list_any, range_with_len}
 use Rattle.ft_body.specs.declared.TheConstants.{BLOCK_SIZE, PAGE_SIZE}
 
--- the bytes of one page; pages count from 0, and the last has as many as there are
+-- the bytes of one page: pages count from 0, and the last has as many bytes as there are
 abbrev pub page_of : List ℕ → ℕ → List ℕ
 page_of bytes page = take PAGE_SIZE (drop (page * PAGE_SIZE) bytes)
 
--- a page is made where one of its bytes is not zero; any other is a hole, and reads as zeros
+-- a page is made if one of its bytes is not zero; any other page is a hole, and reads as zeros
 -- (POSIX.1-2017, System Interfaces, lseek and ftruncate: bytes that were never written are zeros)
 abbrev pub is_made : List ℕ → ℕ → Bool
 is_made bytes page = list_any (λ byte. not (byte == 0)) (page_of bytes page)
 
--- how many pages so many bytes take
+-- how many pages `size` bytes take
 abbrev pub page_count : ℕ → ℕ
 page_count size = (size + (PAGE_SIZE - 1)) / PAGE_SIZE
 
@@ -20,8 +20,7 @@ page_count size = (size + (PAGE_SIZE - 1)) / PAGE_SIZE
 unfoldable pub made_pages : List ℕ → ℕ
 made_pages bytes = count_by (is_made bytes) (range_with_len 0 (page_count (length bytes)))
 
--- each page that holds none of the bytes from one index up to another is made in both or in
--- neither
+-- each page that holds none of the bytes from one index up to another is made in both or in neither
 abbrev pub KeepsPagesOutside : List ℕ → List ℕ → ℕ → ℕ → Type 0
 KeepsPagesOutside old new from to =
     (page : ℕ) → ((page + 1) * PAGE_SIZE ≤ from) ⊎ (to ≤ page * PAGE_SIZE) → is_made new page ≡ is_made old page
@@ -30,7 +29,7 @@ KeepsPagesOutside old new from to =
 abbrev pub MakesNoPage : List ℕ → List ℕ → ℕ → Type 0
 MakesNoPage old new size = (page : ℕ) → is_made new page ≡ true → (is_made old page ≡ true) × (page * PAGE_SIZE < size)
 
--- What a `Block` and a `BlockUndo` keep true of their fields, which no public clause cites.
+-- A `Block` and a `BlockUndo` keep the following true of their fields. No public clause cites it.
 
 -- a list of bytes is empty, or its last is not zero
 abbrev pub EndsWithNoZero : List ℕ → Type 0
@@ -41,11 +40,11 @@ pub record IsPage (page : List ℕ) : Type 0 where
   pub fits : length page ≤ PAGE_SIZE
   pub no_end_zero : EndsWithNoZero page
 
--- the byte at an index of some pages, and zero where nothing is kept
+-- the byte at an index of some pages, or zero if no byte is kept there
 abbrev pub byte_in : List (List ℕ) → ℕ → ℕ
 byte_in pages k = slice_index (slice_index_or pages (k / PAGE_SIZE) []) (k % PAGE_SIZE)
 
--- so many bytes of some pages: this is how a body is seen as a list
+-- the first `size` bytes of some pages: this is how a block is seen as a list
 abbrev pub bytes_in : ℕ → List (List ℕ) → List ℕ
 bytes_in size pages = map (byte_in pages) (range_with_len 0 size)
 
@@ -53,26 +52,27 @@ bytes_in size pages = map (byte_in pages) (range_with_len 0 size)
 abbrev pub ArePages : List (List ℕ) → Type 0
 ArePages pages = (i : ℕ) → IsPage (slice_index_or pages i [])
 
--- pages hold so many bytes: there are as many as these take, and behind the bytes are zeros
+-- pages hold `size` bytes: there are as many pages as these bytes take, and all bytes after them
+-- are zeros
 pub record IsPaged (size : ℕ) (pages : List (List ℕ)) : Type 0 where
   pub limit : size ≤ BLOCK_SIZE
   pub count : length pages ≡ page_count size
   pub pages_are : ArePages pages
   pub past : (k : ℕ) → size ≤ k → byte_in pages k ≡ 0
 
--- of two ways to read bytes by index, the new one has some bytes from an index on, and is the old
--- one elsewhere
+-- `old` and `new` give bytes by index: `new` gives these bytes from `start` on, and is the same as
+-- `old` elsewhere
 pub record IsWritten (old new : ℕ → ℕ) (start : ℕ) (bytes : List ℕ) : Type 0 where
   pub before : (k : ℕ) → k < start → new k ≡ old k
   pub there : (k : ℕ) → k < length bytes → new (start + k) ≡ slice_index bytes k
   pub behind : (k : ℕ) → start + length bytes ≤ k → new k ≡ old k
 
--- the new one has the bytes before an index of the old one, and zeros from there on
+-- `new` gives the bytes of `old` before an index, and zeros from there on
 pub record IsFront (old new : ℕ → ℕ) (size : ℕ) : Type 0 where
   pub before : (k : ℕ) → k < size → new k ≡ old k
   pub zeros : (k : ℕ) → size ≤ k → new k ≡ 0
 
--- how many of the bytes before an index there are without the zeros at their end
+-- the bytes before an index, without the zeros at their end, are `end` bytes
 pub record IsFrontEnd (bytes : ℕ → ℕ) (size end : ℕ) : Type 0 where
   pub within : end ≤ size
   pub zeros : (k : ℕ) → end ≤ k → k < size → bytes k ≡ 0

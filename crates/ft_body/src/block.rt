@@ -15,10 +15,11 @@ use std::snapshot::Snapshot;
 
 /// The bytes of one block, which clauses see as a list.
 ///
-/// They stand in pages of `PAGE_SIZE` bytes. A page is made where one of its bytes is not zero; any
-/// other is a hole, which takes no bytes. A write takes time as the bytes that it writes and a page
-/// at most, a read as those that it gives, and a change of the length as the pages that stay or are
-/// added, and the bytes of one page at most.
+/// They are in pages of `PAGE_SIZE` bytes. A page is made if one of its bytes is not zero. Any
+/// other page is a hole, which takes no bytes. A write takes time in proportion to the bytes that
+/// it writes, the pages that it adds, and the bytes of at most one page. A read takes time in
+/// proportion to the bytes that it gives. A change of the length takes time in proportion to the
+/// pages that stay or are added, and the bytes of at most one page.
 #[derive(Drop)]
 pub(crate) struct Block {
     size: usize,
@@ -37,7 +38,7 @@ impl Model for Block {
 }
 
 impl Block {
-    /// A block of no bytes. Takes no memory.
+    /// Returns a block without bytes. Takes no memory.
     pub(crate) fn new(alloc: Global) -> Block
         ensures { result ≡ [] }
     {
@@ -47,7 +48,7 @@ impl Block {
         }
     }
 
-    /// How many bytes there are.
+    /// Returns how many bytes there are.
     pub(crate) fn len(&self) -> usize
         ensures count { result ≡ length self.now }
         ensures limit { result ≤ BLOCK_SIZE }
@@ -55,7 +56,8 @@ impl Block {
         self.size
     }
 
-    /// Adds the bytes from an offset on, at most `count`, to others.
+    /// Appends the bytes from an offset on, at most `count`, to others. Out of memory is the only
+    /// error.
     pub(crate) fn read_at(
         &self,
         read: &mut Vec<u8>,
@@ -69,14 +71,15 @@ impl Block {
         read_pages(&self.pages, read, start, count)
     }
 
-    /// The length of the bytes before an offset without the zeros at their end.
+    /// Returns the length of the bytes before an offset, without the zeros at their end.
     pub(crate) fn end_below(&self, size: usize) -> usize
         ensures { IsFrontEnd (slice_index self.now) size result }
     {
         end_below(&self.pages, size.min(self.size))
     }
 
-    /// Writes bytes at an offset. Zeros fill a gap before them. No bytes change nothing.
+    /// Writes bytes at an offset, and returns the undo. Zeros fill a gap before the bytes. If there
+    /// are no bytes, nothing changes. On an error, nothing has changed.
     pub(crate) fn write_at(&mut self, offset: usize, bytes: &[u8]) -> Result<BlockUndo, Memory>
         requires { offset + length bytes.now ≤ BLOCK_SIZE }
         ensures after { OnOk result (self.new ≡ written self.old offset bytes.now) }
@@ -95,7 +98,7 @@ impl Block {
         Ok(BlockUndo::new(lost, size, before, size_after, after))
     }
 
-    /// What takes back that nothing was changed.
+    /// Returns the undo of a change that changed nothing.
     fn unchanged(&self) -> BlockUndo
         ensures { result ≡ record { before = self.now; after = self.now } }
     {
@@ -106,7 +109,8 @@ impl Block {
         BlockUndo::new(lost, self.size, before, size_after, after)
     }
 
-    /// Cuts the block to a size, or adds zeros up to it.
+    /// Cuts the block to a size, or adds zeros up to it, and returns the undo. On an error, nothing
+    /// has changed.
     pub(crate) fn set_len(&mut self, size: usize) -> Result<BlockUndo, Memory>
         requires { size ≤ BLOCK_SIZE }
         ensures after { OnOk result (self.new ≡ resized self.old size) }
@@ -122,7 +126,7 @@ impl Block {
         Ok(BlockUndo::new(lost, old_size, before, size_after, after))
     }
 
-    /// Takes a change back, where the block is as the change left it. Takes no memory.
+    /// Undoes a change, if the block is as the change left it. Takes no memory.
     pub(crate) fn undo(&mut self, undo: BlockUndo)
         requires { self.old ≡ undo.after }
         ensures { self.new ≡ undo.before }
@@ -130,14 +134,14 @@ impl Block {
         undo.put_back(&mut self.size, &mut self.pages);
     }
 
-    /// How many pages are made.
+    /// Returns how many pages are made.
     pub(crate) fn pages(&self) -> u64
         ensures { result ≡ made_pages self.now }
     {
         self.pages.iter().filter(|page| page.is_made()).count() as u64
     }
 
-    /// A block of its own with equal bytes.
+    /// Returns another block with equal bytes. Out of memory is the only error.
     pub(crate) fn copy(&self) -> Result<Block, Memory>
         ensures { IfOk result (λ copy. copy ≡ self.now) }
     {

@@ -1,4 +1,4 @@
-// How a change of a block is taken back.
+// How a change of a block is undone.
 ghost use Rattle.std.specs.Prelude.{◌≡◌};
 ghost use Rattle.ft_body.specs.Paging.{IsPaged, bytes_in};
 ghost use Rattle.ft_body.specs.PutBack.{PutsBack};
@@ -8,10 +8,10 @@ use crate::pages::{Lost, put_back};
 use std::marker::Model;
 use std::snapshot::Snapshot;
 
-/// What takes one change of a block back.
+/// The undo of one change of a block.
 ///
 /// Clauses see it as the bytes before the change and the bytes after it. It keeps only what the
-/// change destroyed, and room for the pages in which that stood: the snapshots have no bytes.
+/// change destroyed, and room for the pages of these bytes. The snapshots have no bytes.
 pub struct BlockUndo {
     lost: Lost,
     size: u32,
@@ -28,12 +28,17 @@ impl Model for BlockUndo {
     ghost use Rattle.ft_body.specs.Paging.{IsPaged, bytes_in};
     ghost use Rattle.ft_body.specs.PutBack.{PutsBack};
 
-    ghost view = { λ a. record { before = bytes_in a.size a.before.value.items; after = bytes_in a.size_after.value a.after.value.items } };
+    ghost view = { λ a. record {
+      before = bytes_in a.size a.before.value.items;
+      after = bytes_in a.size_after.value a.after.value.items;
+    } };
 
-    ghost invariant = { λ a. IsPaged a.size a.before.value.items × IsPaged a.size_after.value a.after.value.items × PutsBack a.lost a.after.value.items a.before.value.items };
+    ghost invariant = { λ a. IsPaged a.size a.before.value.items
+        × IsPaged a.size_after.value a.after.value.items
+        × PutsBack a.lost a.after.value.items a.before.value.items };
 }
 
-// By hand, so that callers that let one go see one step.
+// By hand, so that callers that drop one see one step.
 impl Drop for BlockUndo {
     fn drop(self) {
         let BlockUndo {
@@ -47,7 +52,7 @@ impl Drop for BlockUndo {
 }
 
 impl BlockUndo {
-    /// The undo of a change that destroyed `lost`.
+    /// Returns the undo of a change that destroyed `lost`.
     pub(crate) fn new(
         lost: Lost,
         size: usize,
@@ -58,7 +63,10 @@ impl BlockUndo {
         requires lost { PutsBack lost after.value.items before.value.items }
         requires before { IsPaged size before.value.items }
         requires after { IsPaged size_after.value after.value.items }
-        ensures { result ≡ record { before = bytes_in size before.value.items; after = bytes_in size_after.value after.value.items } }
+        ensures { result ≡ record {
+          before = bytes_in size before.value.items;
+          after = bytes_in size_after.value after.value.items;
+        } }
     {
         BlockUndo {
             lost,

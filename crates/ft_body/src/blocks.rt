@@ -13,35 +13,37 @@ use ft_base::Memory;
 use smallvec::SmallVec;
 use std::mem;
 
-/// A block, and its number: where it stands in a body, in blocks.
+/// A block, and its number: its place in the body, counted in blocks.
 #[derive(Drop)]
 pub(crate) struct Placed {
     pub(crate) at: usize,
     pub(crate) block: Block,
 }
 
-/// What one step of a change of the blocks destroyed.
+/// The blocks or bytes that one step of a change destroyed.
 #[derive(Default, Drop)]
 pub(crate) enum LostBlocks {
     /// Nothing.
     #[default]
     Nothing,
-    /// That there was no block, where one was made.
+    /// The absence of a block, where one was made.
     Made { index: usize },
     /// Bytes of one block.
     Changed { index: usize, undo: BlockUndo },
-    /// The blocks from before a cut. The first `kept` of them are empty here, since they stay.
+    /// The blocks from before a cut. The first `kept` of them are empty here, because they stay in
+    /// the body.
     Tail { kept: usize, blocks: Vec<Placed> },
-    /// The place of the block that was moved behind all others.
+    /// The index of the block that was moved after all others.
     Last { index: usize },
 }
 
-/// Where the block with a number stands, or would stand.
+/// Returns the index of the block with a number. If there is no such block, returns the index where
+/// it belongs.
 pub(crate) fn place_of(blocks: &[Placed], at: usize) -> usize
     requires { AreBlocks 0 blocks.now }
     ensures { IsPlace blocks.now at result }
 {
-    // So it is in a file without holes of whole blocks.
+    // This is the case in a file without holes of whole blocks.
     if at < blocks.len() && blocks[at].at == at {
         return at;
     }
@@ -58,12 +60,15 @@ pub(crate) fn place_of(blocks: &[Placed], at: usize) -> usize
     low
 }
 
-/// The index of the block with a number, or where it would stand.
+/// Returns the index of the block with a number. If there is no such block, the error is the index
+/// where it belongs.
 pub(crate) fn index_of(blocks: &[Placed], at: usize) -> Result<usize, usize>
     requires { AreBlocks 0 blocks.now }
-    ensures found { IfOk result (λ i. (i < length blocks.now) × ((placed_at blocks.now i).at ≡ at)) }
+    ensures found { IfOk result
+        (λ i. (i < length blocks.now) × ((placed_at blocks.now i).at ≡ at)) }
     ensures place { IfErr result (λ i. IsPlace blocks.now at i) }
-    ensures absent { OnErr result ((i : ℕ) → i < length blocks.now → (placed_at blocks.now i).at ≢ at) }
+    ensures absent { OnErr result ((i : ℕ) → i < length blocks.now
+        → (placed_at blocks.now i).at ≢ at) }
 {
     let index = place_of(blocks, at);
     if index < blocks.len() && blocks[index].at == at {
@@ -73,7 +78,8 @@ pub(crate) fn index_of(blocks: &[Placed], at: usize) -> Result<usize, usize>
     }
 }
 
-/// Puts a block at an index.
+/// Inserts a block at an index. Adds to `steps` what undoes this. Even on an error, the steps undo
+/// all changes.
 pub(crate) fn add(
     blocks: &mut Vec<Placed>,
     steps: &mut SmallVec<LostBlocks, 1>,
@@ -91,7 +97,7 @@ pub(crate) fn add(
     Ok(())
 }
 
-/// Makes room for one block where there is none, so that a small body takes no more.
+/// Makes room for one block if there is no block, so that a small body takes no more.
 fn make_place(blocks: &mut Vec<Placed>) -> Result<(), Memory>
     ensures { blocks.new.items ≡ blocks.old.items }
 {
@@ -101,7 +107,8 @@ fn make_place(blocks: &mut Vec<Placed>) -> Result<(), Memory>
     Ok(())
 }
 
-/// Writes bytes from `start` of the block at an index on.
+/// Writes bytes to the block at an index, from `start` on. Adds to `steps` what undoes this. Even
+/// on an error, the steps undo all changes.
 pub(crate) fn write_at(
     blocks: &mut Vec<Placed>,
     steps: &mut SmallVec<LostBlocks, 1>,
@@ -111,7 +118,11 @@ pub(crate) fn write_at(
 ) -> Result<(), Memory>
     requires inside { index < vec_len blocks.old }
     requires limit { start + length bytes.now ≤ BLOCK_SIZE }
-    ensures after { OnOk result (blocks.new.items ≡ slice_set blocks.old.items index record { at = (placed_at blocks.old.items index).at; block = written (placed_at blocks.old.items index).block start bytes.now }) }
+    ensures after { OnOk result (blocks.new.items
+        ≡ slice_set blocks.old.items index record {
+          at = (placed_at blocks.old.items index).at;
+          block = written (placed_at blocks.old.items index).block start bytes.now;
+        }) }
     ensures lost { StillUndoes steps.old.items steps.new.items blocks.old.items blocks.new.items }
 {
     steps.reserve(1)?;
@@ -120,7 +131,8 @@ pub(crate) fn write_at(
     Ok(())
 }
 
-/// Cuts the block at an index to a size.
+/// Cuts the block at an index to a size. Adds to `steps` what undoes this. Even on an error, the
+/// steps undo all changes.
 pub(crate) fn cut_at(
     blocks: &mut Vec<Placed>,
     steps: &mut SmallVec<LostBlocks, 1>,
@@ -129,7 +141,11 @@ pub(crate) fn cut_at(
 ) -> Result<(), Memory>
     requires inside { index < vec_len blocks.old }
     requires limit { size ≤ BLOCK_SIZE }
-    ensures after { OnOk result (blocks.new.items ≡ slice_set blocks.old.items index record { at = (placed_at blocks.old.items index).at; block = resized (placed_at blocks.old.items index).block size }) }
+    ensures after { OnOk result (blocks.new.items
+        ≡ slice_set blocks.old.items index record {
+          at = (placed_at blocks.old.items index).at;
+          block = resized (placed_at blocks.old.items index).block size;
+        }) }
     ensures lost { StillUndoes steps.old.items steps.new.items blocks.old.items blocks.new.items }
 {
     steps.reserve(1)?;
@@ -138,7 +154,8 @@ pub(crate) fn cut_at(
     Ok(())
 }
 
-/// Takes the blocks from an index on away.
+/// Removes the blocks from index `kept` on. Adds to `steps` what undoes this. Even on an error, the
+/// steps undo all changes.
 pub(crate) fn cut_behind(
     blocks: &mut Vec<Placed>,
     steps: &mut SmallVec<LostBlocks, 1>,
@@ -167,7 +184,8 @@ pub(crate) fn cut_behind(
     Ok(())
 }
 
-/// Takes the block at an index away.
+/// Removes the block at an index. Adds to `steps` what undoes this. Even on an error, the steps
+/// undo all changes.
 pub(crate) fn take_out(
     blocks: &mut Vec<Placed>,
     steps: &mut SmallVec<LostBlocks, 1>,
@@ -184,7 +202,7 @@ pub(crate) fn take_out(
     cut_behind(blocks, steps, kept)
 }
 
-/// Moves the block at an index behind the others.
+/// Moves the block at an index after all others.
 fn move_last(blocks: &mut [Placed], index: usize)
     requires { index < length blocks.old }
     ensures { blocks.new ≡ remove blocks.old index ++ placed_at blocks.old index ∷ [] }
@@ -195,22 +213,24 @@ fn move_last(blocks: &mut [Placed], index: usize)
 /// Moves the last block to an index.
 fn move_back(blocks: &mut [Placed], index: usize)
     requires { index < length blocks.old }
-    ensures { blocks.new ≡ take index blocks.old ++ drop (length blocks.old - 1) blocks.old ++ take (length blocks.old - 1 - index) (drop index blocks.old) }
+    ensures { blocks.new ≡ take index blocks.old ++ drop (length blocks.old - 1) blocks.old
+        ++ take (length blocks.old - 1 - index) (drop index blocks.old) }
 {
     blocks[index..].rotate_right(1);
 }
 
-/// Puts back what a change destroyed, the last step first. Takes no memory.
+/// Puts back what the steps of a change destroyed, the last step first. Takes no memory.
 pub(crate) fn put_back(blocks: &mut Vec<Placed>, mut steps: SmallVec<LostBlocks, 1>)
     requires { (before : List Placed) × Undoes steps.items blocks.old.items before }
-    ensures { (before : List Placed) → Undoes steps.items blocks.old.items before → blocks.new.items ≡ before }
+    ensures { (before : List Placed) → Undoes steps.items blocks.old.items before
+        → blocks.new.items ≡ before }
 {
     while let Some(lost) = steps.pop() {
         put_step_back(blocks, lost);
     }
 }
 
-/// Puts back what a step destroyed. Takes no memory.
+/// Puts back what one step destroyed. Takes no memory.
 fn put_step_back(blocks: &mut Vec<Placed>, lost: LostBlocks)
     requires { FitsBack lost blocks.old.items }
     ensures { blocks.new.items ≡ step_back lost blocks.old.items }

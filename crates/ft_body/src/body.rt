@@ -16,11 +16,16 @@ use std::snapshot::Snapshot;
 
 /// The bytes of a file, which clauses see as a list.
 ///
-/// They stand in pages of `PAGE_SIZE` bytes. A page is made where one of its bytes is not zero; any
-/// other is a hole, which takes no bytes. The pages stand in blocks of 2 MiB, and a block of which
-/// no page is made is not there. A write takes time as the bytes that it writes and a page at most,
-/// and a read as those that it gives. To lengthen takes neither time nor memory; a cut takes both
-/// as the blocks and the pages of one block that stay, and the bytes of one page at most.
+/// They are in pages of `PAGE_SIZE` bytes. A page is made if one of its bytes is not zero. Any
+/// other page is a hole, which takes no bytes. The pages are in blocks of 2 MiB. A block without a
+/// made page is not kept.
+///
+/// A write takes time in proportion to the bytes that it writes, and the bytes of at most one page.
+/// This time also grows with the pages of a block and the number of blocks in two cases. Either the
+/// write adds pages or blocks, or it leaves only zeros at the end of a block. A read takes time in
+/// proportion to the bytes that it gives. Lengthening takes constant time and no memory. A cut
+/// takes time and memory in proportion to what stays: the blocks, the pages of one block, and the
+/// bytes of at most one page.
 #[derive(Drop)]
 pub struct Body {
     size: usize,
@@ -39,7 +44,7 @@ impl Model for Body {
 }
 
 impl Body {
-    /// The body of an empty file. Takes no memory.
+    /// Returns the body of an empty file. Takes no memory.
     pub fn new(alloc: Global) -> Body
         ensures { result ≡ [] }
     {
@@ -49,7 +54,7 @@ impl Body {
         }
     }
 
-    /// How many bytes there are.
+    /// Returns how many bytes there are.
     pub fn len(&self) -> u64
         ensures count { result ≡ length self.now }
         ensures limit { result ≤ LARGEST_SIZE }
@@ -57,15 +62,15 @@ impl Body {
         self.size as u64
     }
 
-    /// Whether there is none.
+    /// Returns whether there are no bytes.
     pub fn is_empty(&self) -> bool
         ensures { result ≡ (length self.now == 0) }
     {
         self.size == 0
     }
 
-    /// The bytes from an offset on, at most `count`; at or past the end none. To read none takes
-    /// no memory.
+    /// Returns the bytes from an offset on, at most `count`. At or past the end there are none.
+    /// Reading none takes no memory.
     pub fn read_at(&self, offset: u64, count: u64) -> Result<Vec<u8>, Memory>
         ensures bytes { IfOk result (λ read. read.items ≡ bytes_at self.now offset count) }
         ensures nothing { bytes_at self.now offset count ≡ [] → IsOk result }
@@ -77,17 +82,22 @@ impl Body {
         read(alloc, &self.blocks, start as usize, count as usize)
     }
 
-    /// Writes as many of the bytes as there is room for below `LARGEST_SIZE` at an offset, and
-    /// answers how many those are. Zeros fill a gap before them. Where none is written nothing
-    /// changes, and that takes no memory.
+    /// Writes as many of the bytes at an offset as there is room for below `LARGEST_SIZE`. Returns
+    /// how many it wrote, and the undo. Zeros fill a gap before the bytes. If none is written,
+    /// nothing changes and no memory is taken. On an error, nothing has changed.
     pub fn write_at(&mut self, offset: u64, bytes: &[u8]) -> Result<(u64, BodyUndo), Memory>
         requires { offset ≤ LARGEST_SIZE }
-        ensures taken { IfOk result (λ done. done.0 ≡ length (fitting LARGEST_SIZE bytes.now offset)) }
-        ensures after { OnOk result (self.new ≡ written self.old offset (fitting LARGEST_SIZE bytes.now offset)) }
-        ensures undo { IfOk result (λ done. done.1 ≡ record { before = self.old; after = self.new }) }
+        ensures taken { IfOk result
+            (λ done. done.0 ≡ length (fitting LARGEST_SIZE bytes.now offset)) }
+        ensures after { OnOk result (self.new
+            ≡ written self.old offset (fitting LARGEST_SIZE bytes.now offset)) }
+        ensures undo { IfOk result
+            (λ done. done.1 ≡ record { before = self.old; after = self.new }) }
         ensures err { OnErr result (self.new ≡ self.old) }
         ensures nothing { fitting LARGEST_SIZE bytes.now offset ≡ [] → IsOk result }
-        ensures pages { OnOk result (KeepsPagesOutside self.old self.new offset (offset + length (fitting LARGEST_SIZE bytes.now offset))) }
+        ensures pages { OnOk result
+            (KeepsPagesOutside self.old self.new offset
+            (offset + length (fitting LARGEST_SIZE bytes.now offset))) }
     {
         let taken = (LARGEST_SIZE - offset).min(bytes.len() as u64) as usize;
         if taken == 0 {
@@ -104,7 +114,7 @@ impl Body {
         Ok((taken as u64, undo))
     }
 
-    /// What takes back that nothing was changed.
+    /// Returns the undo of a change that changed nothing.
     fn unchanged(&self) -> BodyUndo
         ensures { result ≡ record { before = self.now; after = self.now } }
     {
@@ -115,8 +125,8 @@ impl Body {
         BodyUndo::new(lost, self.size, before, size_after, after)
     }
 
-    /// Cuts the body to a size, or adds zeros up to it. To set the size that it has, or a greater
-    /// one, takes no memory.
+    /// Cuts the body to a size, or adds zeros up to it, and returns the undo. Setting the present
+    /// size or a greater one takes no memory. On an error, nothing has changed.
     pub fn set_len(&mut self, size: u64) -> Result<BodyUndo, Memory>
         requires { size ≤ LARGEST_SIZE }
         ensures after { OnOk result (self.new ≡ resized self.old size) }
@@ -134,7 +144,7 @@ impl Body {
         Ok(BodyUndo::new(lost, old_size, before, size_after, after))
     }
 
-    /// Takes a change back, where the body is as the change left it. Takes no memory.
+    /// Undoes a change, if the body is as the change left it. Takes no memory.
     pub fn undo(&mut self, undo: BodyUndo)
         requires { self.old ≡ undo.after }
         ensures { self.new ≡ undo.before }
@@ -142,16 +152,18 @@ impl Body {
         undo.put_back(&mut self.size, &mut self.blocks);
     }
 
-    /// How many pages are made. A page is made where one of its bytes is not zero; any other is a
-    /// hole, which takes no bytes.
+    /// Returns how many pages are made. A page is made if one of its bytes is not zero. Any other
+    /// page is a hole, which takes no bytes.
     pub fn pages(&self) -> u64
         ensures count { result ≡ made_pages self.now }
-        ensures holes { (k : ℕ) → is_made self.now (k / PAGE_SIZE) ≡ false → slice_index self.now k ≡ 0 }
+        ensures holes { (k : ℕ) → is_made self.now (k / PAGE_SIZE) ≡ false
+            → slice_index self.now k ≡ 0 }
     {
         made(self.size, &self.blocks)
     }
 
-    /// A body of its own with equal bytes. An empty one takes no memory.
+    /// Returns another body with equal bytes. An empty one takes no memory. Out of memory is the
+    /// only error.
     pub fn copy(&self) -> Result<Body, Memory>
         ensures equal { IfOk result (λ copy. copy ≡ self.now) }
         ensures nothing { self.now ≡ [] → IsOk result }

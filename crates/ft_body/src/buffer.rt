@@ -1,4 +1,4 @@
-// A buffer of bytes that is written, and what that destroys.
+// A buffer of bytes that is written, and what a write destroys.
 ghost use Rattle.std.specs.Prelude.{◌≡◌, ℕ, ◌+◌, ◌≤◌, length, take, vec_len, slice_index, IsOk, IfOk, OnOk, OnErr};
 ghost use Rattle.ft_body.specs.Bytes.{laid_over, written};
 ghost use Rattle.ft_body.specs.Paging.{EndsWithNoZero};
@@ -8,23 +8,23 @@ use crate::PAGE_SIZE;
 use ft_base::Memory;
 use std::alloc::Global;
 
-/// What a change of a buffer destroyed.
+/// The bytes that a change of a buffer destroyed.
 #[derive(Default, Drop)]
 pub(crate) enum LostBytes {
     /// Nothing.
     #[default]
     Nothing,
-    /// Bytes that were overwritten, where they stood, and how many there were in all.
+    /// The bytes that were overwritten, where they were, and how many bytes there were in all.
     Part {
         from: u16,
         size: u16,
         bytes: Vec<u8>,
     },
-    /// All bytes, where fewer were left.
+    /// All bytes, if fewer were left.
     Whole(Vec<u8>),
 }
 
-/// The bytes in a buffer of their own.
+/// Returns the bytes in another buffer. Copying none takes no memory.
 pub(crate) fn copy_of(alloc: Global, bytes: &[u8]) -> Result<Vec<u8>, Memory>
     ensures bytes { IfOk result (λ copy. copy.items ≡ bytes.now) }
     ensures nothing { length bytes.now ≡ 0 → IsOk result }
@@ -34,7 +34,7 @@ pub(crate) fn copy_of(alloc: Global, bytes: &[u8]) -> Result<Vec<u8>, Memory>
     Ok(copy)
 }
 
-/// The bytes without the zeros at their end.
+/// Returns the bytes without the zeros at their end.
 pub(crate) fn without_end_zeros(bytes: &[u8]) -> &[u8]
     ensures front { result.now ≡ take (length result.now) bytes.now }
     ensures size { length result.now ≤ length bytes.now }
@@ -48,7 +48,8 @@ pub(crate) fn without_end_zeros(bytes: &[u8]) -> &[u8]
     &bytes[..end]
 }
 
-/// Writes bytes from `start` on, after zeros in a gap. No bytes change nothing.
+/// Writes bytes from `start` on, after zeros that fill a gap. Returns what it destroyed. If there
+/// are no bytes, nothing changes. On an error, no byte has changed.
 pub(crate) fn overwrite(
     buffer: &mut Vec<u8>,
     start: usize,
@@ -77,8 +78,9 @@ pub(crate) fn overwrite(
     })
 }
 
-/// Makes room for so many bytes: for no more where there were none, and for a whole page where they
-/// want more than half of one.
+/// Makes room for `size` bytes if there is none: for no more if the buffer is empty, and for a
+/// whole page if they are more than half of one. In all other cases it leaves the growth to the
+/// `Vec`.
 fn make_room(buffer: &mut Vec<u8>, size: usize) -> Result<(), Memory>
     ensures { buffer.new.items ≡ buffer.old.items }
 {

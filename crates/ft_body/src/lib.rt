@@ -1,8 +1,8 @@
 //! The bytes of a file.
 //!
 //! The rules are those of POSIX.1-2017: Base Definitions, 3.164 (File), and System Interfaces,
-//! read, write, lseek and ftruncate. That a file has at most 2^47 bytes, and that its bytes stand
-//! in blocks of pages, of which those of zeros alone take no bytes, are rules of this project.
+//! read, write, lseek and ftruncate. This project adds three rules. A file has at most 2^47 bytes.
+//! Its bytes are in blocks of pages. A page of zeros only takes no bytes.
 #![tactic(auto)]
 
 mod block;
@@ -18,8 +18,8 @@ mod undo;
 pub use body::Body;
 pub use undo::BodyUndo;
 
-/// The most bytes that a file can have, whatever a tree allows: 2^47, as many as a process has
-/// addresses for.
+/// The most bytes that a file can have, whatever a tree allows. It is 2^47, the number of addresses
+/// of a process.
 pub const LARGEST_SIZE: u64 = 140_737_488_355_328;
 
 /// How many bytes a page has.

@@ -10,8 +10,8 @@ use std::alloc::Global;
 use std::marker::Model;
 use std::mem;
 
-/// The bytes of one page up to its last one that is not zero. All behind it are zeros, and a page
-/// of zeros alone is a hole.
+/// The bytes of one page, up to the last one that is not zero. All bytes after it are zeros. A page
+/// of zeros only is a hole.
 #[derive(Drop)]
 pub(crate) struct Page {
     bytes: Vec<u8>,
@@ -26,7 +26,7 @@ impl Model for Page {
 }
 
 impl Page {
-    /// A page of zeros. Takes no memory.
+    /// Returns a page of zeros. Takes no memory.
     pub(crate) fn hole(alloc: Global) -> Page
         ensures { result ≡ [] }
     {
@@ -35,21 +35,21 @@ impl Page {
         }
     }
 
-    /// Whether one of its bytes is not zero.
+    /// Returns whether one of the bytes is not zero.
     pub(crate) fn is_made(&self) -> bool
         ensures { result ≡ nat_lt 0 (length self.now) }
     {
         !self.bytes.is_empty()
     }
 
-    /// Its bytes, without zeros at the end.
+    /// Returns the bytes, without zeros at the end.
     pub(crate) fn bytes(&self) -> &[u8]
         ensures { result.now ≡ self.now }
     {
         &self.bytes
     }
 
-    /// A page of its own with equal bytes.
+    /// Returns another page with equal bytes. Out of memory is the only error.
     pub(crate) fn copy(&self) -> Result<Page, Memory>
         ensures { IfOk result (λ copy. copy ≡ self.now) }
     {
@@ -57,23 +57,27 @@ impl Page {
         Ok(Page { bytes })
     }
 
-    /// A page of its own with the first bytes, and zeros behind them.
+    /// Returns another page with the first `size` bytes, and zeros after them. Out of memory is the
+    /// only error.
     pub(crate) fn front(&self, size: usize) -> Result<Page, Memory>
         requires size { size ≤ PAGE_SIZE }
         ensures page { IfOk result (λ front. IsPage front) }
-        ensures bytes { IfOk result (λ front. IsFront (slice_index self.now) (slice_index front) size) }
+        ensures bytes { IfOk result
+            (λ front. IsFront (slice_index self.now) (slice_index front) size) }
     {
         let front = without_end_zeros(&self.bytes[..size.min(self.bytes.len())]);
         let bytes = copy_of(*self.bytes.allocator(), front)?;
         Ok(Page { bytes })
     }
 
-    /// Writes bytes from `start` on.
+    /// Writes bytes from `start` on, and returns what it destroyed. On an error, nothing has
+    /// changed.
     pub(crate) fn write(&mut self, start: usize, bytes: &[u8]) -> Result<LostBytes, Memory>
         requires page { IsPage self.old }
         requires room { start + length bytes.now ≤ PAGE_SIZE }
         ensures page { OnOk result (IsPage self.new) }
-        ensures after { OnOk result (IsWritten (slice_index self.old) (slice_index self.new) start bytes.now) }
+        ensures after { OnOk result
+            (IsWritten (slice_index self.old) (slice_index self.new) start bytes.now) }
         ensures lost { IfOk result (λ lost. PutsBytesBack lost self.new self.old) }
         ensures err { OnErr result (self.new ≡ self.old) }
     {
@@ -104,13 +108,16 @@ impl Page {
     }
 }
 
-/// Leaves the bytes before `start` and these behind them, without zeros at the end.
+/// Keeps the bytes before `start`, puts the given bytes after them, and removes the zeros at the
+/// end. Returns what it destroyed. On an error, nothing has changed.
 fn shorten(buffer: &mut Vec<u8>, start: usize, bytes: &[u8]) -> Result<LostBytes, Memory>
     requires page { IsPage buffer.old.items }
     requires shorter { start + length bytes.now < vec_len buffer.old }
     ensures page { OnOk result (IsPage buffer.new.items) }
-    ensures before { OnOk result ((k : ℕ) → k < start → slice_index buffer.new.items k ≡ slice_index buffer.old.items k) }
-    ensures there { OnOk result ((k : ℕ) → start ≤ k → slice_index buffer.new.items k ≡ slice_index bytes.now (k - start)) }
+    ensures before { OnOk result ((k : ℕ) → k < start
+        → slice_index buffer.new.items k ≡ slice_index buffer.old.items k) }
+    ensures there { OnOk result ((k : ℕ) → start ≤ k
+        → slice_index buffer.new.items k ≡ slice_index bytes.now (k - start)) }
     ensures lost { IfOk result (λ lost. PutsBytesBack lost buffer.new.items buffer.old.items) }
     ensures err { OnErr result (buffer.new.items ≡ buffer.old.items) }
 {

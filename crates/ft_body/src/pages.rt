@@ -1,4 +1,4 @@
-// The pages of a block: read, written, cut, and put back.
+// The pages of a block: how they are read, written, cut, and put back.
 ghost use Rattle.std.specs.Prelude.{◌≡◌, ℕ, List, [], ◌+◌, ◌-◌, ◌*◌, ◌/◌, ◌<◌, ◌≤◌, ◌++◌, length, replicate, take, drop, vec_len, slice_index, IsOk, IfOk, OnOk, OnErr};
 ghost use Prim.Native.Nat.{max};
 ghost use Rattle.ft_body.specs.Paging.{page_count as count_of, byte_in, bytes_in, ArePages, IsPaged, IsWritten, IsFront, IsFrontEnd};
@@ -13,33 +13,36 @@ use smallvec::SmallVec;
 use std::alloc::Global;
 use std::mem;
 
-/// What a change of the pages destroyed.
+/// The bytes and pages that a change of the pages destroyed.
 #[derive(Drop)]
 pub(crate) enum Lost {
-    /// What stood in the pages that were written, from `first` on, and how many pages there were.
+    /// The lost bytes of the pages that were written, from `first` on, and how many pages there
+    /// were.
     Parts {
         count: u16,
         first: u16,
         parts: SmallVec<LostBytes, 1>,
     },
-    /// The pages from before a cut. The first `kept` of them are holes here, since they stay.
+    /// The pages from before a cut. The first `kept` of them are holes here, because they stay in
+    /// the block.
     Tail {
         kept: u16,
         pages: Vec<Page>,
     },
 }
 
-/// How many pages so many bytes take.
+/// Returns how many pages `size` bytes take.
 pub(crate) fn page_count(size: usize) -> usize
     ensures { result ≡ count_of size }
 {
     size.div_ceil(PAGE_SIZE)
 }
 
-/// Adds holes up to so many pages.
+/// Adds holes up to `count` pages. On an error, nothing has changed.
 pub(crate) fn lengthen(pages: &mut Vec<Page>, count: usize) -> Result<(), Memory>
     requires { vec_len pages.old ≤ count }
-    ensures after { OnOk result (pages.new.items ≡ pages.old.items ++ replicate (count - vec_len pages.old) []) }
+    ensures after { OnOk result (pages.new.items ≡ pages.old.items
+        ++ replicate (count - vec_len pages.old) []) }
     ensures err { OnErr result (pages.new.items ≡ pages.old.items) }
     ensures nothing { vec_len pages.old ≡ count → IsOk result }
 {
@@ -51,7 +54,7 @@ pub(crate) fn lengthen(pages: &mut Vec<Page>, count: usize) -> Result<(), Memory
     Ok(())
 }
 
-/// Adds so many bytes from `start` on.
+/// Appends `count` bytes, from `start` on, to others. Out of memory is the only error.
 pub(crate) fn read(
     pages: &[Page],
     read: &mut Vec<u8>,
@@ -61,7 +64,9 @@ pub(crate) fn read(
     requires limit { start + count ≤ BLOCK_SIZE }
     requires room { count_of (start + count) ≤ length pages.now }
     requires pages { ArePages pages.now }
-    ensures { OnOk result ((bytes : List ℕ) × (read.new.items ≡ read.old.items ++ bytes) × (length bytes ≡ count) × ((k : ℕ) → k < count → slice_index bytes k ≡ byte_in pages.now (start + k))) }
+    ensures { OnOk result ((bytes : List ℕ) × (read.new.items ≡ read.old.items ++ bytes)
+        × (length bytes ≡ count)
+        × ((k : ℕ) → k < count → slice_index bytes k ≡ byte_in pages.now (start + k))) }
 {
     let before = read.len();
     let end = start + count;
@@ -76,7 +81,7 @@ pub(crate) fn read(
     Ok(())
 }
 
-/// The length of the bytes before an index without the zeros at their end.
+/// Returns the length of the bytes before an index, without the zeros at their end.
 pub(crate) fn end_below(pages: &[Page], size: usize) -> usize
     requires limit { size ≤ BLOCK_SIZE }
     requires room { count_of size ≤ length pages.now }
@@ -96,7 +101,7 @@ pub(crate) fn end_below(pages: &[Page], size: usize) -> usize
     0
 }
 
-/// Pages of their own with equal bytes.
+/// Returns other pages with equal bytes. Copying none takes no memory.
 pub(crate) fn copy_of_pages(alloc: Global, pages: &[Page]) -> Result<Vec<Page>, Memory>
     ensures equal { IfOk result (λ copy. copy.items ≡ pages.now) }
     ensures nothing { length pages.now ≡ 0 → IsOk result }
@@ -108,15 +113,18 @@ pub(crate) fn copy_of_pages(alloc: Global, pages: &[Page]) -> Result<Vec<Page>, 
     Ok(copy)
 }
 
-/// Writes bytes, at least one, from `offset` on.
+/// Writes bytes, at least one, from `offset` on, and returns what it destroyed. On an error,
+/// nothing has changed.
 pub(crate) fn write(pages: &mut Vec<Page>, offset: usize, bytes: &[u8]) -> Result<Lost, Memory>
     requires limit { offset + length bytes.now ≤ BLOCK_SIZE }
     requires some { 0 < length bytes.now }
     requires count { vec_len pages.old ≤ count_of BLOCK_SIZE }
     requires pages { ArePages pages.old.items }
-    ensures count { OnOk result (vec_len pages.new ≡ max (vec_len pages.old) (count_of (offset + length bytes.now))) }
+    ensures count { OnOk result (vec_len pages.new
+        ≡ max (vec_len pages.old) (count_of (offset + length bytes.now))) }
     ensures pages { OnOk result (ArePages pages.new.items) }
-    ensures after { OnOk result (IsWritten (byte_in pages.old.items) (byte_in pages.new.items) offset bytes.now) }
+    ensures after { OnOk result
+        (IsWritten (byte_in pages.old.items) (byte_in pages.new.items) offset bytes.now) }
     ensures lost { IfOk result (λ lost. PutsBack lost pages.new.items pages.old.items) }
     ensures err { OnErr result (pages.new.items ≡ pages.old.items) }
 {
@@ -136,7 +144,8 @@ pub(crate) fn write(pages: &mut Vec<Page>, offset: usize, bytes: &[u8]) -> Resul
     }
 }
 
-/// Writes bytes from `offset` on, page by page, or none of them.
+/// Writes bytes from `offset` on, page by page, and returns what it destroyed in each. On an error,
+/// nothing has changed.
 fn write_each(
     alloc: Global,
     pages: &mut [Page],
@@ -148,8 +157,10 @@ fn write_each(
     requires room { offset + length bytes.now ≤ length pages.old * PAGE_SIZE }
     requires pages { ArePages pages.old }
     ensures pages { OnOk result (ArePages pages.new) }
-    ensures after { OnOk result (IsWritten (byte_in pages.old) (byte_in pages.new) offset bytes.now) }
-    ensures lost { IfOk result (λ parts. PutPartsBack (offset / PAGE_SIZE) parts.items pages.new pages.old) }
+    ensures after { OnOk result
+        (IsWritten (byte_in pages.old) (byte_in pages.new) offset bytes.now) }
+    ensures lost { IfOk result
+        (λ parts. PutPartsBack (offset / PAGE_SIZE) parts.items pages.new pages.old) }
     ensures err { OnErr result (pages.new ≡ pages.old) }
 {
     let first = offset / PAGE_SIZE;
@@ -171,12 +182,14 @@ fn write_each(
     Ok(parts)
 }
 
-/// Cuts pages that hold `old_size` bytes to so many, or adds holes up to them.
+/// Cuts pages that hold `old_size` bytes to `size` bytes, or adds holes up to them. Returns what it
+/// destroyed. On an error, nothing has changed.
 pub(crate) fn resize(pages: &mut Vec<Page>, old_size: usize, size: usize) -> Result<Lost, Memory>
     requires paged { IsPaged old_size pages.old.items }
     requires limit { size ≤ BLOCK_SIZE }
     ensures paged { OnOk result (IsPaged size pages.new.items) }
-    ensures after { OnOk result (bytes_in size pages.new.items ≡ resized (bytes_in old_size pages.old.items) size) }
+    ensures after { OnOk result (bytes_in size pages.new.items
+        ≡ resized (bytes_in old_size pages.old.items) size) }
     ensures lost { IfOk result (λ lost. PutsBack lost pages.new.items pages.old.items) }
     ensures err { OnErr result (pages.new.items ≡ pages.old.items) }
     ensures nothing { old_size ≡ size → IsOk result }
@@ -189,7 +202,7 @@ pub(crate) fn resize(pages: &mut Vec<Page>, old_size: usize, size: usize) -> Res
     Ok(lost)
 }
 
-/// Cuts to so many bytes.
+/// Cuts pages to `size` bytes, and returns what it destroyed. On an error, nothing has changed.
 fn cut(pages: &mut Vec<Page>, size: usize) -> Result<Lost, Memory>
     requires room { count_of size ≤ vec_len pages.old }
     requires limit { size ≤ BLOCK_SIZE }
@@ -214,7 +227,7 @@ fn cut(pages: &mut Vec<Page>, size: usize) -> Result<Lost, Memory>
     })
 }
 
-/// Swaps the first pages of two lists, so many of them.
+/// Swaps the first `count` items of two lists.
 pub(crate) fn swap_fronts<T>(some: &mut Vec<T>, others: &mut Vec<T>, count: usize)
     requires some { count ≤ vec_len some.old }
     requires others { count ≤ vec_len others.old }
@@ -229,7 +242,8 @@ pub(crate) fn swap_fronts<T>(some: &mut Vec<T>, others: &mut Vec<T>, count: usiz
 /// Puts back what a change destroyed. Takes no memory.
 pub(crate) fn put_back(pages: &mut Vec<Page>, lost: Lost)
     requires { (before : List (List ℕ)) × PutsBack lost pages.old.items before }
-    ensures { (before : List (List ℕ)) → PutsBack lost pages.old.items before → pages.new.items ≡ before }
+    ensures { (before : List (List ℕ)) → PutsBack lost pages.old.items before
+        → pages.new.items ≡ before }
 {
     match lost {
         Lost::Parts {
@@ -250,10 +264,11 @@ pub(crate) fn put_back(pages: &mut Vec<Page>, lost: Lost)
     }
 }
 
-/// Puts back what stood in the pages from `first` on, the last first.
+/// Puts back what was in the pages from `first` on, the last page first.
 fn put_parts_back(pages: &mut [Page], first: usize, mut parts: SmallVec<LostBytes, 1>)
     requires { (before : List (List ℕ)) × PutPartsBack first parts.items pages.old before }
-    ensures { (before : List (List ℕ)) → PutPartsBack first parts.items pages.old before → pages.new ≡ before }
+    ensures { (before : List (List ℕ)) → PutPartsBack first parts.items pages.old before
+        → pages.new ≡ before }
 {
     while let Some(lost) = parts.pop() {
         pages[first + parts.len()].put_back(lost);
@@ -261,10 +276,11 @@ fn put_parts_back(pages: &mut [Page], first: usize, mut parts: SmallVec<LostByte
 }
 
 impl Lost {
-    /// That nothing was.
+    /// Returns that nothing was destroyed. Putting this back removes only pages that were added.
     pub(crate) fn nothing(pages: &Vec<Page>) -> Lost
         requires { vec_len pages.now ≤ count_of BLOCK_SIZE }
-        ensures { (added : List (List ℕ)) → PutsBack result (pages.now.items ++ added) pages.now.items }
+        ensures { (added : List (List ℕ))
+            → PutsBack result (pages.now.items ++ added) pages.now.items }
     {
         Lost::Parts {
             count: pages.len() as u16,

@@ -1,4 +1,4 @@
-// The bytes of a body in its blocks: read, written, cut and counted.
+// The bytes of a body in its blocks: how they are read, written, cut and counted.
 ghost use Rattle.std.specs.Prelude.{◌≡◌, ℕ, [], ◌+◌, ◌-◌, ◌*◌, ◌<◌, ◌≤◌, ◌≢◌, ◌++◌, length, vec_len, slice_index, IsOk, IfOk, OnOk, OnErr};
 ghost use Rattle.ft_body.specs.Blocks.{placed_at, block_in, byte_of, bytes_of, AreBlocks, IsBlocked, IsReplaced, Undoes, StillUndoes};
 ghost use Rattle.ft_body.specs.Bytes.{bytes_at, resized};
@@ -14,7 +14,7 @@ use ft_base::Memory;
 use smallvec::SmallVec;
 use std::alloc::Global;
 
-/// So many bytes from `start` on.
+/// Returns `count` bytes from `start` on. Reading none takes no memory.
 pub(crate) fn read(
     alloc: Global,
     blocks: &[Placed],
@@ -24,7 +24,8 @@ pub(crate) fn read(
     requires limit { start + count ≤ LARGEST_SIZE }
     requires blocks { AreBlocks 0 blocks.now }
     ensures count { IfOk result (λ read. length read.items ≡ count) }
-    ensures bytes { IfOk result (λ read. (k : ℕ) → k < count → slice_index read.items k ≡ byte_of blocks.now (start + k)) }
+    ensures bytes { IfOk result
+        (λ read. (k : ℕ) → k < count → slice_index read.items k ≡ byte_of blocks.now (start + k)) }
     ensures nothing { count ≡ 0 → IsOk result }
 {
     if count == 0 {
@@ -42,7 +43,7 @@ pub(crate) fn read(
     Ok(read)
 }
 
-/// Adds what is kept of so many bytes from `start` of the block with a number on.
+/// Appends the bytes that the block with a number keeps, from `start` on, at most `count`.
 fn read_block(
     blocks: &[Placed],
     read: &mut Vec<u8>,
@@ -51,7 +52,8 @@ fn read_block(
     count: usize,
 ) -> Result<(), Memory>
     requires { AreBlocks 0 blocks.now }
-    ensures { OnOk result (read.new.items ≡ read.old.items ++ bytes_at (block_in blocks.now at) start count) }
+    ensures { OnOk result (read.new.items ≡ read.old.items
+        ++ bytes_at (block_in blocks.now at) start count) }
 {
     match index_of(blocks, at) {
         Ok(index) => blocks[index].block.read_at(read, start, count),
@@ -59,7 +61,8 @@ fn read_block(
     }
 }
 
-/// Writes bytes, at least one, from `offset` on, or none of them.
+/// Writes bytes, at least one, from `offset` on, and returns the steps that it took. On an error,
+/// nothing has changed.
 pub(crate) fn write(
     blocks: &mut Vec<Placed>,
     offset: usize,
@@ -69,7 +72,8 @@ pub(crate) fn write(
     requires some { 0 < length bytes.now }
     requires blocks { AreBlocks 0 blocks.old.items }
     ensures blocks { OnOk result (AreBlocks 0 blocks.new.items) }
-    ensures after { OnOk result (IsWritten (byte_of blocks.old.items) (byte_of blocks.new.items) offset bytes.now) }
+    ensures after { OnOk result
+        (IsWritten (byte_of blocks.old.items) (byte_of blocks.new.items) offset bytes.now) }
     ensures lost { IfOk result (λ steps. Undoes steps.items blocks.new.items blocks.old.items) }
     ensures err { OnErr result (blocks.new.items ≡ blocks.old.items) }
 {
@@ -83,7 +87,7 @@ pub(crate) fn write(
     }
 }
 
-/// Writes bytes from `offset` on, block by block.
+/// Writes bytes from `offset` on, block by block. Even on an error, the steps undo all changes.
 fn write_each(
     blocks: &mut Vec<Placed>,
     steps: &mut SmallVec<LostBlocks, 1>,
@@ -94,7 +98,8 @@ fn write_each(
     requires some { 0 < length bytes.now }
     requires blocks { AreBlocks 0 blocks.old.items }
     ensures blocks { OnOk result (AreBlocks 0 blocks.new.items) }
-    ensures after { OnOk result (IsWritten (byte_of blocks.old.items) (byte_of blocks.new.items) offset bytes.now) }
+    ensures after { OnOk result
+        (IsWritten (byte_of blocks.old.items) (byte_of blocks.new.items) offset bytes.now) }
     ensures lost { StillUndoes steps.old.items steps.new.items blocks.old.items blocks.new.items }
 {
     let end = offset + bytes.len();
@@ -107,7 +112,8 @@ fn write_each(
     Ok(())
 }
 
-/// Writes bytes from `start` of the block with a number on.
+/// Writes bytes to the block with a number, from `start` on. Even on an error, the steps undo all
+/// changes.
 fn write_block(
     blocks: &mut Vec<Placed>,
     steps: &mut SmallVec<LostBlocks, 1>,
@@ -118,8 +124,11 @@ fn write_block(
     requires limit { start + length bytes.now ≤ BLOCK_SIZE }
     requires blocks { AreBlocks 0 blocks.old.items }
     ensures blocks { OnOk result (AreBlocks 0 blocks.new.items) }
-    ensures there { OnOk result (IsWritten (slice_index (block_in blocks.old.items at)) (slice_index (block_in blocks.new.items at)) start bytes.now) }
-    ensures others { OnOk result ((n : ℕ) → n ≢ at → block_in blocks.new.items n ≡ block_in blocks.old.items n) }
+    ensures there { OnOk result
+        (IsWritten (slice_index (block_in blocks.old.items at))
+        (slice_index (block_in blocks.new.items at)) start bytes.now) }
+    ensures others { OnOk result ((n : ℕ) → n ≢ at
+        → block_in blocks.new.items n ≡ block_in blocks.old.items n) }
     ensures lost { StillUndoes steps.old.items steps.new.items blocks.old.items blocks.new.items }
 {
     match index_of(blocks, at) {
@@ -136,7 +145,8 @@ fn write_block(
     }
 }
 
-/// Writes bytes from `start` of the block at an index on.
+/// Writes bytes to the block at an index, from `start` on. Even on an error, the steps undo all
+/// changes.
 fn write_found(
     blocks: &mut Vec<Placed>,
     steps: &mut SmallVec<LostBlocks, 1>,
@@ -148,8 +158,12 @@ fn write_found(
     requires limit { start + length bytes.now ≤ BLOCK_SIZE }
     requires blocks { AreBlocks 0 blocks.old.items }
     ensures blocks { OnOk result (AreBlocks 0 blocks.new.items) }
-    ensures there { OnOk result (IsWritten (slice_index (placed_at blocks.old.items index).block) (slice_index (block_in blocks.new.items (placed_at blocks.old.items index).at)) start bytes.now) }
-    ensures others { OnOk result ((n : ℕ) → n ≢ (placed_at blocks.old.items index).at → block_in blocks.new.items n ≡ block_in blocks.old.items n) }
+    ensures there { OnOk result
+        (IsWritten (slice_index (placed_at blocks.old.items index).block)
+        (slice_index (block_in blocks.new.items (placed_at blocks.old.items index).at)) start
+        bytes.now) }
+    ensures others { OnOk result ((n : ℕ) → n ≢ (placed_at blocks.old.items index).at
+        → block_in blocks.new.items n ≡ block_in blocks.old.items n) }
     ensures lost { StillUndoes steps.old.items steps.new.items blocks.old.items blocks.new.items }
 {
     let size = blocks[index].block.len();
@@ -164,7 +178,8 @@ fn write_found(
     Ok(())
 }
 
-/// Cuts the block at an index to what it has before a size, which is nothing where those are zeros.
+/// Cuts the block at an index to its bytes before a size, without zeros at the end. If this leaves
+/// no bytes, removes the block. Even on an error, the steps undo all changes.
 fn cut_found(
     blocks: &mut Vec<Placed>,
     steps: &mut SmallVec<LostBlocks, 1>,
@@ -174,8 +189,11 @@ fn cut_found(
     requires inside { index < vec_len blocks.old }
     requires blocks { AreBlocks 0 blocks.old.items }
     ensures blocks { OnOk result (AreBlocks 0 blocks.new.items) }
-    ensures there { OnOk result (IsFront (slice_index (placed_at blocks.old.items index).block) (slice_index (block_in blocks.new.items (placed_at blocks.old.items index).at)) size) }
-    ensures others { OnOk result ((n : ℕ) → n ≢ (placed_at blocks.old.items index).at → block_in blocks.new.items n ≡ block_in blocks.old.items n) }
+    ensures there { OnOk result
+        (IsFront (slice_index (placed_at blocks.old.items index).block)
+        (slice_index (block_in blocks.new.items (placed_at blocks.old.items index).at)) size) }
+    ensures others { OnOk result ((n : ℕ) → n ≢ (placed_at blocks.old.items index).at
+        → block_in blocks.new.items n ≡ block_in blocks.old.items n) }
     ensures lost { StillUndoes steps.old.items steps.new.items blocks.old.items blocks.new.items }
 {
     let block = &blocks[index].block;
@@ -189,7 +207,8 @@ fn cut_found(
     cut_at(blocks, steps, index, end)
 }
 
-/// Cuts blocks that hold `old_size` bytes to so many, or changes none where there are more.
+/// Cuts blocks that hold `old_size` bytes to `size` bytes, and returns the steps that it took. If
+/// there are no more bytes than `size`, no block changes. On an error, nothing has changed.
 pub(crate) fn resize(
     blocks: &mut Vec<Placed>,
     old_size: usize,
@@ -198,7 +217,8 @@ pub(crate) fn resize(
     requires blocked { IsBlocked old_size blocks.old.items }
     requires limit { size ≤ LARGEST_SIZE }
     ensures blocked { OnOk result (IsBlocked size blocks.new.items) }
-    ensures after { OnOk result (bytes_of size blocks.new.items ≡ resized (bytes_of old_size blocks.old.items) size) }
+    ensures after { OnOk result (bytes_of size blocks.new.items
+        ≡ resized (bytes_of old_size blocks.old.items) size) }
     ensures lost { IfOk result (λ steps. Undoes steps.items blocks.new.items blocks.old.items) }
     ensures err { OnErr result (blocks.new.items ≡ blocks.old.items) }
     ensures nothing { old_size ≡ size → IsOk result }
@@ -216,7 +236,7 @@ pub(crate) fn resize(
     }
 }
 
-/// Cuts to so many bytes.
+/// Cuts blocks to `size` bytes. Even on an error, the steps undo all changes.
 fn cut(
     blocks: &mut Vec<Placed>,
     steps: &mut SmallVec<LostBlocks, 1>,
@@ -225,7 +245,8 @@ fn cut(
     requires limit { size ≤ LARGEST_SIZE }
     requires blocks { AreBlocks 0 blocks.old.items }
     ensures blocks { OnOk result (AreBlocks 0 blocks.new.items) }
-    ensures after { OnOk result (IsFront (byte_of blocks.old.items) (byte_of blocks.new.items) size) }
+    ensures after { OnOk result
+        (IsFront (byte_of blocks.old.items) (byte_of blocks.new.items) size) }
     ensures lost { StillUndoes steps.old.items steps.new.items blocks.old.items blocks.new.items }
 {
     let kept = place_of(blocks, size.div_ceil(BLOCK_SIZE));
@@ -236,7 +257,7 @@ fn cut(
     }
 }
 
-/// Blocks of their own with equal bytes.
+/// Returns other blocks with equal bytes. Copying none takes no memory.
 pub(crate) fn copy_of_blocks(alloc: Global, blocks: &[Placed]) -> Result<Vec<Placed>, Memory>
     ensures equal { IfOk result (λ copy. copy.items ≡ blocks.now) }
     ensures nothing { length blocks.now ≡ 0 → IsOk result }
@@ -251,7 +272,7 @@ pub(crate) fn copy_of_blocks(alloc: Global, blocks: &[Placed]) -> Result<Vec<Pla
     Ok(copy)
 }
 
-/// How many pages of blocks that hold so many bytes are made.
+/// Returns how many pages are made in blocks that hold `size` bytes.
 pub(crate) fn made(size: usize, blocks: &[Placed]) -> u64
     requires { IsBlocked size blocks.now }
     ensures { result ≡ made_pages (bytes_of size blocks.now) }

@@ -1,4 +1,4 @@
-// How a change of a body is taken back.
+// How a change of a body is undone.
 ghost use Rattle.std.specs.Prelude.{◌≡◌};
 ghost use Rattle.ft_body.specs.Blocks.{IsBlocked, bytes_of, Undoes};
 
@@ -7,11 +7,11 @@ use smallvec::SmallVec;
 use std::marker::Model;
 use std::snapshot::Snapshot;
 
-/// What takes one change of a body back.
+/// The undo of one change of a body.
 ///
 /// Clauses see it as the bytes before the change and the bytes after it. It keeps only what the
-/// change destroyed, and room for the pages and the blocks in which that stood: the snapshots have
-/// no bytes.
+/// change destroyed, and room for the pages and the blocks of these bytes. The snapshots have no
+/// bytes.
 pub struct BodyUndo {
     lost: SmallVec<LostBlocks, 1>,
     size: usize,
@@ -27,12 +27,17 @@ impl Model for BodyUndo {
 
     ghost use Rattle.ft_body.specs.Blocks.{IsBlocked, bytes_of, Undoes};
 
-    ghost view = { λ a. record { before = bytes_of a.size a.before.value.items; after = bytes_of a.size_after.value a.after.value.items } };
+    ghost view = { λ a. record {
+      before = bytes_of a.size a.before.value.items;
+      after = bytes_of a.size_after.value a.after.value.items;
+    } };
 
-    ghost invariant = { λ a. IsBlocked a.size a.before.value.items × IsBlocked a.size_after.value a.after.value.items × Undoes a.lost.items a.after.value.items a.before.value.items };
+    ghost invariant = { λ a. IsBlocked a.size a.before.value.items
+        × IsBlocked a.size_after.value a.after.value.items
+        × Undoes a.lost.items a.after.value.items a.before.value.items };
 }
 
-// By hand, so that callers that let one go see one step.
+// By hand, so that callers that drop one see one step.
 impl Drop for BodyUndo {
     fn drop(self) {
         let BodyUndo {
@@ -46,7 +51,7 @@ impl Drop for BodyUndo {
 }
 
 impl BodyUndo {
-    /// The undo of a change that destroyed `lost`.
+    /// Returns the undo of a change that destroyed `lost`.
     pub(crate) fn new(
         lost: SmallVec<LostBlocks, 1>,
         size: usize,
@@ -57,7 +62,10 @@ impl BodyUndo {
         requires lost { Undoes lost.items after.value.items before.value.items }
         requires before { IsBlocked size before.value.items }
         requires after { IsBlocked size_after.value after.value.items }
-        ensures { result ≡ record { before = bytes_of size before.value.items; after = bytes_of size_after.value after.value.items } }
+        ensures { result ≡ record {
+          before = bytes_of size before.value.items;
+          after = bytes_of size_after.value after.value.items;
+        } }
     {
         BodyUndo {
             lost,

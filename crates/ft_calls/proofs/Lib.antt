@@ -1,3 +1,4 @@
 mod More
+mod Opened
 mod PathsJudged
 mod Targets

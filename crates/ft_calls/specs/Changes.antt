@@ -1,4 +1,4 @@
--- What becomes of attributes that are changed.
+-- Attributes after a change.
 use Rattle.std.specs.Prelude.{Option, None, Some}
 use Rattle.ft_path.specs.declared.errno.Errno.{Errno}
 use Rattle.ft_cells.specs.declared.attributes.Attributes.{Attributes}
@@ -13,7 +13,7 @@ abbrev pub made : Change → Attributes → Attributes
 made (Mode mode) = with_mode mode
 made (Owners owner group) = with_owner owner group
 
--- what a call comes to that has nothing to do: its fault, where it has one
+-- the outcome of a call that has nothing to do: its fault, if it has one, or else `Done`
 abbrev pub done_unless : Option Errno → Outcome
 done_unless None = told Done
 done_unless (Some e) = failed e

@@ -1,2 +1,5 @@
+-- What the crate keeps true of itself.
 pub mod Changes
+pub mod Drafts
 pub mod Judged
+pub mod Opened

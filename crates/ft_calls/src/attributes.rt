@@ -1,26 +1,25 @@
-// What the calls on attributes and times come to.
+// The plans of the calls on attributes and times.
 ghost use Rattle.std.specs.Prelude.{true, false, ◌≡◌, [], Some};
 ghost use Rattle.ft_path.specs.FilePath.{parts_of};
 ghost use Rattle.ft_posix.specs.Outcomes.{from_parts, from_judged};
 ghost use Rattle.ft_posix.specs.Attributes.{mode_fault, time_fault, changed, change_dir, change_file, change_spot, chmod_spot, chown_spot, chown_link, lchown_spot, fchmod_open, fchown_open, set_time, time_spot, utime_spot, lutime_spot, futime_open};
 ghost use Rattle.ft_posix.specs.Descriptors.{with_open, any_open};
-ghost use Rattle.ft_posix.specs.Comes.{Comes};
-ghost use Rattle.ft_posix.specs.Intended.{intended};
+ghost use Rattle.ft_calls.specs.Drafts.{Plans};
 ghost use Rattle.ft_calls.specs.Changes.{made, done_unless};
 
+use crate::draft::Draft;
 use crate::judging::{find_spot, mode_fault, time_fault};
-use ft_looks::Look;
+use crate::purpose::{Purpose, open_for};
 use ft_path::{Errno, FilePath};
-use ft_posix::{Edit, Edits, Stop, Told};
-use ft_tree::{Attributes, Form, Kind, Node, OpenFile, Rare, Spot, Timestamp};
-use std::alloc::Global;
+use ft_posix::{CallError, Edit, PlannedReply};
+use ft_tree::{Attributes, Form, Kind, Node, OpenFile, PathEnd, Rare, Timestamp};
 
-/// What is to be changed of attributes.
+/// A change of attributes.
 #[derive(Clone, Copy)]
 pub(crate) enum Change {
     /// The mode.
     Mode(u16),
-    /// The owner and the group, those that are given.
+    /// The owner and the group. One that is not given stays.
     Owners {
         owner: Option<u32>,
         group: Option<u32>,
@@ -28,7 +27,7 @@ pub(crate) enum Change {
 }
 
 impl Change {
-    /// What is kept of the attributes of a directory or file once they are changed.
+    /// Returns what is stored of the attributes of a directory or file after the change.
     pub(crate) fn changed(self, kind: Kind, was: Option<Attributes>) -> Option<Attributes>
         ensures { result ≡ changed kind (made self) was }
     {
@@ -36,7 +35,7 @@ impl Change {
         self.made(was).kept(kind)
     }
 
-    /// The changed attributes.
+    /// Returns the changed attributes.
     fn made(self, was: Attributes) -> Attributes
         ensures { result ≡ made self was }
     {
@@ -55,91 +54,240 @@ impl Change {
     }
 }
 
-/// Sets the mode of a directory or a file.
-pub(crate) fn chmod(
-    alloc: Global,
-    look: &mut Look<'_>,
-    edits: &mut Edits<'_>,
-    mode: u16,
-    path: &FilePath,
-) -> Result<Told, Stop>
-    requires { edits.old ≡ [] }
-    ensures { Comes look.old (from_judged (mode_fault (Some mode)) true (parts_of path.now) (chmod_spot mode)) look.new (intended edits.new result) }
-{
-    let spot = find_spot(alloc, look, true, path, mode_fault(Some(mode)))?;
-    let change = Change::Mode(mode);
-    change_spot(alloc, look, edits, change, Some(Errno::ELOOP), spot)
-}
+impl<'t, 'c> Draft<'t, 'c> {
+    /// Plans to set the mode of a directory or a file.
+    pub(crate) fn chmod(&mut self, mode: u16, path: &FilePath) -> Result<PlannedReply, CallError>
+        requires { self.old.edits ≡ [] }
+        ensures { Plans self.old
+            (from_judged (mode_fault (Some mode)) true (parts_of path.now) (chmod_spot mode))
+            self.new result }
+    {
+        let fault = mode_fault(Some(mode));
+        let spot = find_spot(self.alloc, &mut self.look, true, path, fault)?;
+        let change = Change::Mode(mode);
+        self.change_spot(change, Some(Errno::ELOOP), spot)
+    }
 
-/// Sets the mode of a descriptor's file.
-pub(crate) fn fchmod(
-    alloc: Global,
-    look: &mut Look<'_>,
-    edits: &mut Edits<'_>,
-    fd: u64,
-    mode: u16,
-) -> Result<Told, Stop>
-    requires { edits.old ≡ [] }
-    ensures { Comes look.old (with_open fd any_open (fchmod_open mode)) look.new (intended edits.new result) }
-{
-    match look.open_file(fd)? {
-        Some(description) => fchmod_open(alloc, look, edits, mode, description),
-        None => Err(Stop::Errno(Errno::EBADF)),
+    /// Plans to set the mode of a descriptor's file.
+    pub(crate) fn fchmod(&mut self, fd: u64, mode: u16) -> Result<PlannedReply, CallError>
+        requires { self.old.edits ≡ [] }
+        ensures { Plans self.old (with_open fd any_open (fchmod_open mode)) self.new result }
+    {
+        let description = open_for(&mut self.look, fd, Purpose::Any)?;
+        self.fchmod_open(mode, description)
+    }
+
+    /// Plans to set the mode of a description's file.
+    fn fchmod_open(&mut self, mode: u16, description: OpenFile) -> Result<PlannedReply, CallError>
+        requires { self.old.edits ≡ [] }
+        ensures { Plans self.old (fchmod_open mode description) self.new result }
+    {
+        if let Some(errno) = mode_fault(Some(mode)) {
+            return Err(CallError::Errno(errno));
+        }
+        self.change_file(Change::Mode(mode), description.file)
+    }
+
+    /// Plans to set the owner and the group of a directory or a file. One that is not given stays.
+    pub(crate) fn chown(
+        &mut self,
+        owner: Option<u32>,
+        group: Option<u32>,
+        path: &FilePath,
+    ) -> Result<PlannedReply, CallError>
+        requires { self.old.edits ≡ [] }
+        ensures { Plans self.old (from_parts true (parts_of path.now) (chown_spot owner group))
+            self.new result }
+    {
+        let spot = find_spot(self.alloc, &mut self.look, true, path, None)?;
+        let change = Change::Owners { owner, group };
+        self.change_spot(change, Some(Errno::ELOOP), spot)
+    }
+
+    /// Plans to set the owner and the group of a directory or a file. Those of a last symbolic link
+    /// stay 0.
+    pub(crate) fn lchown(
+        &mut self,
+        owner: Option<u32>,
+        group: Option<u32>,
+        path: &FilePath,
+    ) -> Result<PlannedReply, CallError>
+        requires { self.old.edits ≡ [] }
+        ensures { Plans self.old (from_parts false (parts_of path.now) (lchown_spot owner group))
+            self.new result }
+    {
+        let spot = find_spot(self.alloc, &mut self.look, false, path, None)?;
+        let change = Change::Owners { owner, group };
+        self.change_spot(change, link_fault(owner, group), spot)
+    }
+
+    /// Plans to set the owner and the group of a descriptor's file. One that is not given stays.
+    pub(crate) fn fchown(
+        &mut self,
+        fd: u64,
+        owner: Option<u32>,
+        group: Option<u32>,
+    ) -> Result<PlannedReply, CallError>
+        requires { self.old.edits ≡ [] }
+        ensures { Plans self.old (with_open fd any_open (fchown_open owner group)) self.new result }
+    {
+        let description = open_for(&mut self.look, fd, Purpose::Any)?;
+        let change = Change::Owners { owner, group };
+        self.change_file(change, description.file)
+    }
+
+    /// Plans to change the attributes at the end of a walk. A symbolic link has none that could be
+    /// changed: there the call returns `Done`, or fails with the given fault.
+    fn change_spot(
+        &mut self,
+        change: Change,
+        link_fault: Option<Errno>,
+        spot: PathEnd,
+    ) -> Result<PlannedReply, CallError>
+        requires { self.old.edits ≡ [] }
+        ensures { Plans self.old (change_spot (made change) (done_unless link_fault) spot)
+            self.new result }
+    {
+        match spot {
+            PathEnd::Named { node: None, .. } => Err(CallError::Errno(Errno::ENOENT)),
+            PathEnd::Named {
+                node: Some(Node::Dir(dir)),
+                ..
+            }
+            | PathEnd::Itself(dir) => self.change_dir(change, dir),
+            PathEnd::Named {
+                node: Some(Node::File(Form::Regular, file)),
+                ..
+            } => self.change_file(change, file),
+            PathEnd::Named {
+                node: Some(Node::File(Form::Link, _)),
+                ..
+            } => match link_fault {
+                None => Ok(PlannedReply::Done),
+                Some(errno) => Err(CallError::Errno(errno)),
+            },
+        }
+    }
+
+    /// Plans to change the attributes of a directory.
+    fn change_dir(&mut self, change: Change, dir: u64) -> Result<PlannedReply, CallError>
+        requires { self.old.edits ≡ [] }
+        ensures { Plans self.old (change_dir (made change) dir) self.new result }
+    {
+        let was = self.look.dir_attributes(dir)?;
+        let to = Rare::new(self.alloc, change.changed(Kind::Dir, was))?;
+        self.edits.push(Edit::DirAttributes { dir, to })?;
+        Ok(PlannedReply::Done)
+    }
+
+    /// Plans to change the attributes of a file.
+    fn change_file(&mut self, change: Change, file: u64) -> Result<PlannedReply, CallError>
+        requires { self.old.edits ≡ [] }
+        ensures { Plans self.old (change_file (made change) file) self.new result }
+    {
+        let was = self.look.file_attributes(file)?;
+        let to = Rare::new(self.alloc, change.changed(Kind::File, was))?;
+        self.edits.push(Edit::FileAttributes {
+            file: self.look.hinted(file),
+            to,
+        })?;
+        Ok(PlannedReply::Done)
+    }
+
+    /// Plans to set the time of a file's bytes.
+    pub(crate) fn utime(
+        &mut self,
+        time: Timestamp,
+        path: &FilePath,
+    ) -> Result<PlannedReply, CallError>
+        requires { self.old.edits ≡ [] }
+        ensures { Plans self.old
+            (from_judged (time_fault time) true (parts_of path.now) (utime_spot time))
+            self.new result }
+    {
+        let spot = find_spot(self.alloc, &mut self.look, true, path, time_fault(time))?;
+        self.time_spot(Errno::ELOOP, time, spot)
+    }
+
+    /// Plans to set the time of a file's bytes. Fails at a last symbolic link.
+    pub(crate) fn lutime(
+        &mut self,
+        time: Timestamp,
+        path: &FilePath,
+    ) -> Result<PlannedReply, CallError>
+        requires { self.old.edits ≡ [] }
+        ensures { Plans self.old
+            (from_judged (time_fault time) false (parts_of path.now) (lutime_spot time))
+            self.new result }
+    {
+        let spot = find_spot(self.alloc, &mut self.look, false, path, time_fault(time))?;
+        self.time_spot(Errno::EINVAL, time, spot)
+    }
+
+    /// Plans to set the time of the bytes of a descriptor's file.
+    pub(crate) fn futime(&mut self, fd: u64, time: Timestamp) -> Result<PlannedReply, CallError>
+        requires { self.old.edits ≡ [] }
+        ensures { Plans self.old (with_open fd any_open (futime_open time)) self.new result }
+    {
+        let description = open_for(&mut self.look, fd, Purpose::Any)?;
+        self.futime_open(time, description)
+    }
+
+    /// Plans to set the time of the bytes of a description's file.
+    fn futime_open(
+        &mut self,
+        time: Timestamp,
+        description: OpenFile,
+    ) -> Result<PlannedReply, CallError>
+        requires { self.old.edits ≡ [] }
+        ensures { Plans self.old (futime_open time description) self.new result }
+    {
+        if let Some(errno) = time_fault(time) {
+            return Err(CallError::Errno(errno));
+        }
+        self.set_time(time, description.file)
+    }
+
+    /// Plans to set the time at the end of a walk. Only a file has a time. A symbolic link has the
+    /// given fault.
+    fn time_spot(
+        &mut self,
+        link_fault: Errno,
+        time: Timestamp,
+        spot: PathEnd,
+    ) -> Result<PlannedReply, CallError>
+        requires { self.old.edits ≡ [] }
+        ensures { Plans self.old (time_spot link_fault time spot) self.new result }
+    {
+        match spot {
+            PathEnd::Named { node: None, .. } => Err(CallError::Errno(Errno::ENOENT)),
+            PathEnd::Named {
+                node: Some(Node::File(Form::Regular, file)),
+                ..
+            } => self.set_time(time, file),
+            PathEnd::Named {
+                node: Some(Node::File(Form::Link, _)),
+                ..
+            } => Err(CallError::Errno(link_fault)),
+            _ => Err(CallError::Errno(Errno::EINVAL)),
+        }
+    }
+
+    /// Plans to set the time of a file.
+    fn set_time(&mut self, time: Timestamp, file: u64) -> Result<PlannedReply, CallError>
+        requires { self.old.edits ≡ [] }
+        ensures { Plans self.old (set_time time file) self.new result }
+    {
+        self.look.size(file)?;
+        self.edits.push(Edit::Time {
+            file: self.look.hinted(file),
+            to: Rare::new(self.alloc, Some(time))?,
+        })?;
+        Ok(PlannedReply::Done)
     }
 }
 
-/// Sets the mode of a description's file.
-fn fchmod_open(
-    alloc: Global,
-    look: &mut Look<'_>,
-    edits: &mut Edits<'_>,
-    mode: u16,
-    description: OpenFile,
-) -> Result<Told, Stop>
-    requires { edits.old ≡ [] }
-    ensures { Comes look.old (fchmod_open mode description) look.new (intended edits.new result) }
-{
-    if let Some(errno) = mode_fault(Some(mode)) {
-        return Err(Stop::Errno(errno));
-    }
-    change_file(alloc, look, edits, Change::Mode(mode), description.file)
-}
-
-/// Sets the owner and the group of a directory or a file, those that are given.
-pub(crate) fn chown(
-    alloc: Global,
-    look: &mut Look<'_>,
-    edits: &mut Edits<'_>,
-    owner: Option<u32>,
-    group: Option<u32>,
-    path: &FilePath,
-) -> Result<Told, Stop>
-    requires { edits.old ≡ [] }
-    ensures { Comes look.old (from_parts true (parts_of path.now) (chown_spot owner group)) look.new (intended edits.new result) }
-{
-    let spot = find_spot(alloc, look, true, path, None)?;
-    let change = Change::Owners { owner, group };
-    change_spot(alloc, look, edits, change, Some(Errno::ELOOP), spot)
-}
-
-/// Sets the owner and the group of a directory or a file; those of a last symbolic link stay 0.
-pub(crate) fn lchown(
-    alloc: Global,
-    look: &mut Look<'_>,
-    edits: &mut Edits<'_>,
-    owner: Option<u32>,
-    group: Option<u32>,
-    path: &FilePath,
-) -> Result<Told, Stop>
-    requires { edits.old ≡ [] }
-    ensures { Comes look.old (from_parts false (parts_of path.now) (lchown_spot owner group)) look.new (intended edits.new result) }
-{
-    let spot = find_spot(alloc, look, false, path, None)?;
-    let change = Change::Owners { owner, group };
-    change_spot(alloc, look, edits, change, link_fault(owner, group), spot)
-}
-
-/// What is wrong with the owner and the group that a symbolic link would get.
+/// Returns the fault of the owner and the group that a symbolic link would get, if there is one.
 fn link_fault(owner: Option<u32>, group: Option<u32>) -> Option<Errno>
     ensures { done_unless result ≡ chown_link owner group }
 {
@@ -147,206 +295,4 @@ fn link_fault(owner: Option<u32>, group: Option<u32>) -> Option<Errno>
         return None;
     }
     Some(Errno::EINVAL)
-}
-
-/// Sets the owner and the group of a descriptor's file, those that are given.
-pub(crate) fn fchown(
-    alloc: Global,
-    look: &mut Look<'_>,
-    edits: &mut Edits<'_>,
-    fd: u64,
-    owner: Option<u32>,
-    group: Option<u32>,
-) -> Result<Told, Stop>
-    requires { edits.old ≡ [] }
-    ensures { Comes look.old (with_open fd any_open (fchown_open owner group)) look.new (intended edits.new result) }
-{
-    match look.open_file(fd)? {
-        Some(description) => {
-            let change = Change::Owners { owner, group };
-            change_file(alloc, look, edits, change, description.file)
-        }
-        None => Err(Stop::Errno(Errno::EBADF)),
-    }
-}
-
-/// Changes the attributes of what stands where a walk ended. A symbolic link has none that could
-/// be changed: there the call is done, or has the fault that is given.
-fn change_spot(
-    alloc: Global,
-    look: &mut Look<'_>,
-    edits: &mut Edits<'_>,
-    change: Change,
-    link_fault: Option<Errno>,
-    spot: Spot,
-) -> Result<Told, Stop>
-    requires { edits.old ≡ [] }
-    ensures { Comes look.old (change_spot (made change) (done_unless link_fault) spot) look.new (intended edits.new result) }
-{
-    match spot {
-        Spot::Named { node: None, .. } => Err(Stop::Errno(Errno::ENOENT)),
-        Spot::Named {
-            node: Some(Node::Dir(dir)),
-            ..
-        }
-        | Spot::Itself(dir) => change_dir(alloc, look, edits, change, dir),
-        Spot::Named {
-            node: Some(Node::File(Form::Regular, file)),
-            ..
-        } => change_file(alloc, look, edits, change, file),
-        Spot::Named {
-            node: Some(Node::File(Form::Link, _)),
-            ..
-        } => match link_fault {
-            None => Ok(Told::Done),
-            Some(errno) => Err(Stop::Errno(errno)),
-        },
-    }
-}
-
-/// Changes the attributes of a directory.
-fn change_dir(
-    alloc: Global,
-    look: &mut Look<'_>,
-    edits: &mut Edits<'_>,
-    change: Change,
-    dir: u64,
-) -> Result<Told, Stop>
-    requires { edits.old ≡ [] }
-    ensures { Comes look.old (change_dir (made change) dir) look.new (intended edits.new result) }
-{
-    let was = look.dir_attributes(dir)?;
-    let to = Rare::new(alloc, change.changed(Kind::Dir, was))?;
-    edits.push(Edit::DirAttributes { dir, to })?;
-    Ok(Told::Done)
-}
-
-/// Changes the attributes of a file.
-fn change_file(
-    alloc: Global,
-    look: &mut Look<'_>,
-    edits: &mut Edits<'_>,
-    change: Change,
-    file: u64,
-) -> Result<Told, Stop>
-    requires { edits.old ≡ [] }
-    ensures { Comes look.old (change_file (made change) file) look.new (intended edits.new result) }
-{
-    let was = look.file_attributes(file)?;
-    let to = Rare::new(alloc, change.changed(Kind::File, was))?;
-    edits.push(Edit::FileAttributes {
-        file: look.hinted(file),
-        to,
-    })?;
-    Ok(Told::Done)
-}
-
-/// Sets the time of a file's bytes.
-pub(crate) fn utime(
-    alloc: Global,
-    look: &mut Look<'_>,
-    edits: &mut Edits<'_>,
-    time: Timestamp,
-    path: &FilePath,
-) -> Result<Told, Stop>
-    requires { edits.old ≡ [] }
-    ensures { Comes look.old (from_judged (time_fault time) true (parts_of path.now) (utime_spot time)) look.new (intended edits.new result) }
-{
-    let spot = find_spot(alloc, look, true, path, time_fault(time))?;
-    time_spot(alloc, look, edits, Errno::ELOOP, time, spot)
-}
-
-/// Sets the time of a file's bytes, and fails at a last symbolic link.
-pub(crate) fn lutime(
-    alloc: Global,
-    look: &mut Look<'_>,
-    edits: &mut Edits<'_>,
-    time: Timestamp,
-    path: &FilePath,
-) -> Result<Told, Stop>
-    requires { edits.old ≡ [] }
-    ensures { Comes look.old (from_judged (time_fault time) false (parts_of path.now) (lutime_spot time)) look.new (intended edits.new result) }
-{
-    let spot = find_spot(alloc, look, false, path, time_fault(time))?;
-    time_spot(alloc, look, edits, Errno::EINVAL, time, spot)
-}
-
-/// Sets the time of the bytes of a descriptor's file.
-pub(crate) fn futime(
-    alloc: Global,
-    look: &mut Look<'_>,
-    edits: &mut Edits<'_>,
-    fd: u64,
-    time: Timestamp,
-) -> Result<Told, Stop>
-    requires { edits.old ≡ [] }
-    ensures { Comes look.old (with_open fd any_open (futime_open time)) look.new (intended edits.new result) }
-{
-    match look.open_file(fd)? {
-        Some(description) => futime_open(alloc, look, edits, time, description),
-        None => Err(Stop::Errno(Errno::EBADF)),
-    }
-}
-
-/// Sets the time of the bytes of a description's file.
-fn futime_open(
-    alloc: Global,
-    look: &mut Look<'_>,
-    edits: &mut Edits<'_>,
-    time: Timestamp,
-    description: OpenFile,
-) -> Result<Told, Stop>
-    requires { edits.old ≡ [] }
-    ensures { Comes look.old (futime_open time description) look.new (intended edits.new result) }
-{
-    if let Some(errno) = time_fault(time) {
-        return Err(Stop::Errno(errno));
-    }
-    set_time(alloc, look, edits, time, description.file)
-}
-
-/// Sets the time of what stands where a walk ended. Only a file has one; a symbolic link has the
-/// fault that is given.
-fn time_spot(
-    alloc: Global,
-    look: &mut Look<'_>,
-    edits: &mut Edits<'_>,
-    link_fault: Errno,
-    time: Timestamp,
-    spot: Spot,
-) -> Result<Told, Stop>
-    requires { edits.old ≡ [] }
-    ensures { Comes look.old (time_spot link_fault time spot) look.new (intended edits.new result) }
-{
-    match spot {
-        Spot::Named { node: None, .. } => Err(Stop::Errno(Errno::ENOENT)),
-        Spot::Named {
-            node: Some(Node::File(Form::Regular, file)),
-            ..
-        } => set_time(alloc, look, edits, time, file),
-        Spot::Named {
-            node: Some(Node::File(Form::Link, _)),
-            ..
-        } => Err(Stop::Errno(link_fault)),
-        _ => Err(Stop::Errno(Errno::EINVAL)),
-    }
-}
-
-/// Sets the time of a file.
-fn set_time(
-    alloc: Global,
-    look: &mut Look<'_>,
-    edits: &mut Edits<'_>,
-    time: Timestamp,
-    file: u64,
-) -> Result<Told, Stop>
-    requires { edits.old ≡ [] }
-    ensures { Comes look.old (set_time time file) look.new (intended edits.new result) }
-{
-    look.size(file)?;
-    edits.push(Edit::Time {
-        file: look.hinted(file),
-        to: Rare::new(alloc, Some(time))?,
-    })?;
-    Ok(Told::Done)
 }

@@ -2,34 +2,35 @@
 ghost use Rattle.std.specs.Prelude.{◌≡◌};
 ghost use Rattle.ft_path.specs.FilePath.{parts_of};
 ghost use Rattle.ft_posix.specs.Attributes.{mode_fault, time_fault};
-ghost use Rattle.ft_posix.specs.Comes.{Leads};
+ghost use Rattle.ft_posix.specs.Computes.{Resolves};
 ghost use Rattle.ft_calls.specs.Judged.{judged};
 
 use ft_looks::{Look, text_parts};
 use ft_path::{Errno, FilePath};
-use ft_posix::Stop;
-use ft_tree::{MOST_MODE, MOST_NANOSECONDS, Spot, Timestamp};
+use ft_posix::CallError;
+use ft_tree::{MOST_MODE, MOST_NANOSECONDS, PathEnd, Timestamp};
 use std::alloc::Global;
 
-/// Where a path leads, through a last symbolic link where that is to be followed. The fault of its
-/// text comes first, then that of the arguments, where they have one.
+/// Returns where a path leads, through a last symbolic link if that is to be followed. The fault of
+/// its text comes first, then that of the arguments, if they have one, and then that of the
+/// look-up.
 pub(crate) fn find_spot(
     alloc: Global,
     look: &mut Look<'_>,
     follow: bool,
     path: &FilePath,
     fault: Option<Errno>,
-) -> Result<Spot, Stop>
-    ensures { Leads look.old (judged fault follow (parts_of path.now)) look.new result }
+) -> Result<PathEnd, CallError>
+    ensures { Resolves look.old (judged fault follow (parts_of path.now)) look.new result }
 {
     let parts = text_parts(path)?;
     if let Some(errno) = fault {
-        return Err(Stop::Errno(errno));
+        return Err(CallError::Errno(errno));
     }
     look.walk(alloc, follow, &parts)
 }
 
-/// What is wrong with a mode, where one is given.
+/// Returns the fault of a mode, if one is given and has a fault.
 pub(crate) fn mode_fault(mode: Option<u16>) -> Option<Errno>
     ensures { result ≡ mode_fault mode }
 {
@@ -39,7 +40,7 @@ pub(crate) fn mode_fault(mode: Option<u16>) -> Option<Errno>
     }
 }
 
-/// What is wrong with a time.
+/// Returns the fault of a time, if there is one.
 pub(crate) fn time_fault(time: Timestamp) -> Option<Errno>
     ensures { result ≡ time_fault time }
 {

@@ -1,22 +1,24 @@
-//! The twenty-eight calls, carried out as far as a look at the tree: what a call accesses, what it
-//! is to set, and what it answers, found out before anything is changed.
+//! The twenty-eight calls, carried out as far as a look at the tree. The accesses, the edits and
+//! the reply of a call are found before anything is changed.
 //!
-//! What each call does is said by `ft_posix`.
+//! The crate `ft_posix` defines what each call does.
 #![tactic(auto)]
 
 mod attributes;
 mod descriptors;
 mod dirs;
+mod draft;
 mod files;
 mod judging;
 mod links;
 mod making;
 mod offsets;
 mod preparing;
+mod purpose;
 mod symlinks;
 
 pub use ft_posix::{
-    Access, Call, Edit, Edits, Intent, LAST_OFFSET, Mode, OpenFlags, Reply, StampedCall, Told,
-    Whence,
+    Access, Call, Edit, Edits, Intent, LAST_OFFSET, Mode, OpenFlags, PlannedReply, Reply,
+    StampedCall, Whence,
 };
 pub use preparing::{Looked, Prepared, accesses, look_behind, look_over, prepare};

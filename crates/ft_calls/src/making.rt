@@ -1,8 +1,8 @@
-// The modes that new directories and files get.
+// The modes of new directories and files.
 ghost use Rattle.std.specs.Prelude.{◌≡◌, ◌++◌, OnOk};
 ghost use Rattle.ft_cells.specs.Cells.{Cells};
 ghost use Rattle.ft_posix.specs.Attributes.{dir_mode, file_mode};
-ghost use Rattle.ft_posix.specs.Comes.{writes_of};
+ghost use Rattle.ft_posix.specs.Computes.{writes_of};
 
 use crate::attributes::Change;
 use ft_base::Memory;
@@ -10,14 +10,15 @@ use ft_posix::{Edit, Edits};
 use ft_tree::{HintedFile, Kind, Rare};
 use std::alloc::Global;
 
-/// A new directory gets the mode that is given, if there is one.
+/// Adds the edit that gives a new directory the given mode, if there is one.
 pub(crate) fn set_dir_mode(
     alloc: Global,
     edits: &mut Edits<'_>,
     dir: u64,
     mode: Option<u16>,
 ) -> Result<(), Memory>
-    ensures { (cells : Cells) → OnOk result (writes_of cells edits.new ≡ writes_of cells edits.old ++ dir_mode dir mode) }
+    ensures { (cells : Cells)
+        → OnOk result (writes_of cells edits.new ≡ writes_of cells edits.old ++ dir_mode dir mode) }
 {
     let Some(mode) = mode else {
         return Ok(());
@@ -29,14 +30,16 @@ pub(crate) fn set_dir_mode(
     Ok(())
 }
 
-/// A new file gets the mode that is given, if there is one.
+/// Adds the edit that gives a new file the given mode, if there is one.
 pub(crate) fn set_file_mode(
     alloc: Global,
     edits: &mut Edits<'_>,
     file: u64,
     mode: Option<u16>,
 ) -> Result<(), Memory>
-    ensures { (cells : Cells) → OnOk result (writes_of cells edits.new ≡ writes_of cells edits.old ++ file_mode file mode) }
+    ensures { (cells : Cells)
+        → OnOk result (writes_of cells edits.new ≡ writes_of cells edits.old
+        ++ file_mode file mode) }
 {
     let Some(mode) = mode else {
         return Ok(());

@@ -1,4 +1,4 @@
-// The numbers that a call may give for sizes and offsets.
+// The sizes and offsets that a call may be given.
 ghost use Rattle.std.specs.Prelude.{◌≡◌, ◌≤◌, IfOk};
 ghost use Rattle.ft_posix.specs.Files.{to_size};
 ghost use Rattle.ft_posix.specs.Descriptors.{not_negative, moved, offset_within};
@@ -7,7 +7,7 @@ use ft_path::Errno;
 use ft_posix::LAST_OFFSET;
 use ft_tree::TreeLimits;
 
-/// An offset that is not negative.
+/// Returns an offset. Fails with EINVAL if it is negative.
 pub(crate) fn not_negative(offset: i64) -> Result<u64, Errno>
     ensures { result ≡ not_negative offset }
 {
@@ -17,7 +17,8 @@ pub(crate) fn not_negative(offset: i64) -> Result<u64, Errno>
     Ok(offset.unsigned_abs())
 }
 
-/// A length that a file may have.
+/// Returns a length as the size of a file. Fails with EINVAL if it is negative, and with EFBIG if
+/// it is above the size limit.
 pub(crate) fn to_size(limits: TreeLimits, length: i64) -> Result<u64, Errno>
     ensures size { result ≡ to_size limits length }
     ensures limit { IfOk result (λ size. size ≤ limits.file_size) }
@@ -29,7 +30,8 @@ pub(crate) fn to_size(limits: TreeLimits, length: i64) -> Result<u64, Errno>
     Ok(size)
 }
 
-/// The offset that lies `offset` behind a place, or before it.
+/// Returns the place that is `offset` after `from`, or before it if `offset` is negative. Fails
+/// with EINVAL if the place is below 0, and with EOVERFLOW if it is above `LAST_OFFSET`.
 pub(crate) fn seek_place(from: u64, offset: i64) -> Result<u64, Errno>
     ensures { result ≡ offset_within (moved from offset) }
 {

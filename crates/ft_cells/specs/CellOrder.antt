@@ -13,7 +13,7 @@ use Rattle.ft_cells.specs.Entries.{entry_at}
 use Rattle.ft_cells.specs.declared.cell.Cell.{Cell}
 use Rattle.ft_cells.specs.declared.cell.Cell.TheVariants.{Entry, Names, Parent, Links, Bytes, Fd, DirAttributes, FileAttributes}
 
--- the kind of a cell: entries first, and attributes last
+-- the rank of the kind of a cell: entries first, and attributes last
 abbrev pub cell_rank : Cell → ℕ
 cell_rank (Entry entry) = 0
 cell_rank (Names d) = 1
@@ -46,16 +46,16 @@ cell_name (Fd f) = []
 cell_name (DirAttributes d) = []
 cell_name (FileAttributes i) = []
 
--- by kind, then by number, and then by the bytes of the name
+-- cells are ordered by kind, then by number, and then by the bytes of the name
 abbrev pub cell_cmp : Cell → Cell → Ordering
 cell_cmp x y = ordering_then (nat_cmp (cell_rank x) (cell_rank y)) (ordering_then (nat_cmp (cell_number x) (cell_number y)) (slice_cmp nat_cmp (cell_name x) (cell_name y)))
 
--- cells are the same where they do not differ in the order
+-- cells are the same if they do not differ in the order
 abbrev pub same_cell : Cell → Cell → Bool
 same_cell x y = is_eq (cell_cmp x y)
 
--- cells overlap where they are the same, or where one is the names of a directory and the other
--- an entry of it
+-- cells overlap if they are the same, or if one is the names of a directory and the other is an
+-- entry of that directory
 abbrev pub overlap : Cell → Cell → Bool
 overlap (Entry entry) (Names e) = entry.dir == e
 overlap (Names d) (Entry entry) = d == entry.dir
@@ -86,7 +86,7 @@ cell_again (Fd f) = refl
 cell_again (DirAttributes d) = refl
 cell_again (FileAttributes i) = refl
 
--- cells that do not differ in the order are one
+-- cells that do not differ in the order are equal
 pub cell_cmp_exact : CmpEqualImpliesEq cell_cmp
 cell_cmp_exact x y tied =
     let same = exact_pairs nat_cmp (λ (a b : ℕ × List ℕ). ordering_then (nat_cmp a.0 b.0) (slice_cmp nat_cmp a.1 b.1)) exact_unsigned (exact_pairs nat_cmp (slice_cmp nat_cmp) exact_unsigned exact_bytes)
@@ -97,6 +97,6 @@ cell_cmp_exact x y tied =
 pub same_cell-refl : (x : Cell) → same_cell x x ≡ true
 same_cell-refl = (eq_by_cmp_equiv cell_cmp_total).refl
 
--- cells that are the same are one
+-- cells that are the same are equal
 pub same_cell-is : (x y : Cell) → same_cell x y ≡ true → x ≡ y
 same_cell-is x y h = cell_cmp_exact x y ((Equal-is (cell_cmp x y)).0 h)

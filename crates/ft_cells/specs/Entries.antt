@@ -14,11 +14,11 @@ use Rattle.ft_cells.specs.declared.entry.EntryRef.{EntryRef}
 abbrev pub entry_at : ℕ → List ℕ → Entry
 entry_at dir name = record { dir = dir; name = name }
 
--- the entry that a borrowed name tells of
+-- the entry that a borrowed name describes
 abbrev pub entry_in : EntryRef → Entry
 entry_in entry = entry_at entry.dir entry.name.now
 
--- by directory, and then by the bytes of the name
+-- entries are ordered by directory, and then by the bytes of the name
 abbrev pub entry_cmp : Entry → Entry → Ordering
 entry_cmp x y = ordering_then (nat_cmp x.dir y.dir) (slice_cmp nat_cmp x.name y.name)
 
@@ -26,6 +26,6 @@ entry_cmp x y = ordering_then (nat_cmp x.dir y.dir) (slice_cmp nat_cmp x.name y.
 pub entry_cmp_total : IsTotalOrder entry_cmp
 entry_cmp_total = then_total (on_total (λ entry. entry.dir) nat_cmp_total) (on_total (λ entry. entry.name) nat_list_cmp_total)
 
--- entries that do not differ in the order are one
+-- entries that do not differ in the order are the same
 pub entry_cmp_exact : CmpEqualImpliesEq entry_cmp
 entry_cmp_exact x y tied = ap (λ (e : ℕ × List ℕ). entry_at e.0 e.1) (exact_pairs nat_cmp (slice_cmp nat_cmp) exact_unsigned exact_bytes (x.dir, x.name) (y.dir, y.name) tied)

@@ -1,3 +1,4 @@
+-- What callers cite.
 pub mod Limits
 pub mod Nodes
 pub mod Modes

@@ -1,5 +1,5 @@
--- What is found out about a tree, look by look: each look is at one cell, and what it shows says
--- how to go on. (Rules of this project.)
+-- Ways to find something out about a tree, look by look. Each look is at one cell, and the value
+-- that the cell shows decides how to go on. (Rules of this project.)
 use Rattle.std.specs.Prelude.{◌≡◌, ℕ, List, [], ◌∷◌, Option, Result, Ok, Err, refl}
 use Rattle.std.proofs.Common.{ap, ◌∙◌}
 use Rattle.ft_cells.specs.declared.node.Node.{Node}
@@ -9,9 +9,10 @@ use Rattle.ft_cells.specs.declared.open_file.OpenFile.{OpenFile}
 use Rattle.ft_cells.specs.declared.attributes.Attributes.{Attributes}
 use Rattle.ft_cells.specs.Cells.{Contents}
 
--- what a cell shows when it is looked at: an entry its node or none, names a list of names with
--- nodes, a parent a number or none, links a count, bytes a list with its time or none, a descriptor
--- its description or none, and attributes those that are kept, or none
+-- what a cell shows when it is looked at. An entry shows its node or none. Names show a list of
+-- names with nodes. A parent shows a number or none, and links show a count. Bytes show a list of
+-- bytes, with their time or none. A descriptor shows its description or none. Attributes show those
+-- that are stored, or none.
 abbrev pub Shows : Cell → Type 0
 Shows (Entry entry) = Option Node
 Shows (Names d) = List (List ℕ × Node)
@@ -26,60 +27,61 @@ Shows (FileAttributes i) = Option Attributes
 abbrev pub View : Type 0
 View = (c : Cell) → Shows c
 
--- a way to find something out: an answer at once, or a look at one cell, and from what it shows
--- how to go on. The walk, a call and its accesses are one such text.
+-- a way to find something out: an answer at once, or a look at one cell. After a look, the value
+-- that the cell shows decides how to go on. The walk, a call and its accesses are one such text.
 pub data Looks (A : Type 0) : Type 0 where
   Answer : A → Looks A
   Look : (c : Cell) → (Shows c → Looks A) → Looks A
 
--- to go on with what was found out
+-- one part after another: the second goes on with the answer of the first
 abbrev pub then : {A B : Type 0} → Looks A → (A → Looks B) → Looks B
 then (Answer x) f = f x
 then (Look c next) f = Look c (λ x. then (next x) f)
 
--- to go on with a value; an error ends it
+-- the next part goes on with a value, and an error ends the way
 abbrev pub or_else : {A B E : Type 0} → (E → B) → (A → Looks B) → Result A E → Looks B
 or_else fail f (Ok x) = f x
 or_else fail f (Err e) = Answer (fail e)
 
 module _ {A : Type 0} where
-  -- what is found out in a view
+  -- the answer in a view
   abbrev pub answer : Looks A → View → A
   answer (Answer x) v = x
   answer (Look c next) v = answer (next (v c)) v
 
-  -- the cells that are looked at on the way, in order
+  -- the cells that are looked at in a view, in order
   abbrev pub looked_at : Looks A → View → List Cell
   looked_at (Answer x) v = []
   looked_at (Look c next) v = c ∷ looked_at (next (v c)) v
 
--- how who reads a tree stands when it has read each of the cells, one after the other
+-- the state of a reader after it has noted each of the cells, one after another
 abbrev pub all_noted : {R : Type 0} → (R → Cell → R) → R → List Cell → R
 all_noted noted r [] = r
 all_noted noted r (c ∷ cs) = all_noted noted (noted r c) cs
 
--- each of the cells shows the same in both views
+-- each of the cells shows the same value in both views
 abbrev pub Agree : View → View → List Cell → Type 0
 Agree v w [] = Unit {0}
 Agree v w (c ∷ cs) = (v c ≡ w c) × Agree v w cs
 
 module _ {A : Type 0} where
-  -- where all that is looked at in one view shows the same in another, the answer is the same
+  -- if each cell that is looked at in one view shows the same in another, the answers are equal
   pub answer-agree : (s : Looks A) (v w : View) → Agree v w (looked_at s v) → answer s v ≡ answer s w
   answer-agree (Answer x) v w a = refl
   answer-agree (Look c next) v w a = answer-agree (next (v c)) v w a.1 ∙ ap (λ x. answer (next x) w) a.0
 
-  -- and so is what is looked at
+  -- if each cell that is looked at in one view shows the same in another, the lists of cells that
+  -- are looked at are equal
   pub looked_at-agree : (s : Looks A) (v w : View) → Agree v w (looked_at s v) → looked_at s v ≡ looked_at s w
   looked_at-agree (Answer x) v w a = refl
   looked_at-agree (Look c next) v w a = ap (λ cs. c ∷ cs) (looked_at-agree (next (v c)) v w a.1 ∙ ap (λ x. looked_at (next x) w) a.0)
 
--- of two parts, one after the other, the answer is that of the second
+-- the answer of two parts, one after the other, is the answer of the second part
 pub answer-then : {A B : Type 0} (s : Looks A) (f : A → Looks B) (v : View) → answer (then s f) v ≡ answer (f (answer s v)) v
 answer-then (Answer x) f v = refl
 answer-then (Look c next) f v = answer-then (next (v c)) f v
 
--- what is noted of two parts, one after the other
+-- a reader notes two parts, one after the other, by noting the first and then the second
 pub all_noted-then : {R A B : Type 0} (noted : R → Cell → R) (r : R) (s : Looks A) (f : A → Looks B) (v : View)
     → all_noted noted r (looked_at (then s f) v) ≡ all_noted noted (all_noted noted r (looked_at s v)) (looked_at (f (answer s v)) v)
 all_noted-then noted r (Answer x) f v = refl

@@ -1,6 +1,6 @@
--- The plain tree: edges, directories, files and open file descriptions, with nothing kept beside
--- them (POSIX.1-2017, Base Definitions, 3: Directory, Directory Entry, File, Open File
--- Description; and 4.13).
+-- The plain tree: edges, directories, files and open file descriptions, and nothing else
+-- (POSIX.1-2017, Base Definitions, 3: Directory, Directory Entry, File, Open File Description; and
+-- 4.13).
 use Rattle.std.specs.Prelude.{ℕ, cond, ◌==◌, List, map, filter, length, Option, None}
 use Rattle.std.specs.Ordering.{nat_cmp}
 use Rattle.std.specs.List.{find}
@@ -16,28 +16,28 @@ use Rattle.ft_cells.specs.Entries.{entry_cmp}
 use Rattle.ft_cells.specs.Cells.{Contents, no_contents}
 use Rattle.ft_cells.specs.Looks.{View}
 
--- A file: the attributes that are kept of it, and what it holds.
+-- A file: the attributes that are stored of it, and what it holds.
 pub record PlainFile : Type 0 where
   pub attributes : Option Attributes
   pub contents : Contents
 
--- the directories by number, each with the attributes that are kept of it
+-- the directories by number, each with the attributes that are stored of it
 abbrev pub PlainDirs : Type 0
 PlainDirs = finite.FinMap nat_cmp (Option Attributes)
 
--- the files by number; of a symbolic link the bytes are its target
+-- the files by number; the bytes of a symbolic link are its target
 abbrev pub PlainFiles : Type 0
 PlainFiles = finite.FinMap nat_cmp PlainFile
 
--- a tree with nothing kept beside what it is: no place, no parent and no count of links
+-- a tree with only what it consists of: it stores no place, no parent and no count of links
 pub record PlainTree : Type 0 where
-  -- how large files may be, and how many links they may have
+  -- the limits of the size of a file and of its links
   pub limits : TreeLimits
   -- what each entry leads to
   pub edges : finite.FinMap entry_cmp Node
   -- the numbers that are directories, and their attributes
   pub dirs : PlainDirs
-  -- each file and symbolic link
+  -- each file and symbolic link, by number
   pub files : PlainFiles
   -- the open file description of each descriptor
   pub opens : finite.FinMap nat_cmp OpenFile
@@ -54,7 +54,8 @@ names_in p d = map (λ e. (e.0.name, e.1)) (finite.entries (finite.retain_keys p
 abbrev pub links_in : PlainTree → ℕ → ℕ
 links_in p i = length (filter (λ e. number_of e.1 == i) (finite.entries p.edges))
 
--- what a plain tree shows for each cell; only a directory has a parent, and only what is none has links
+-- what a plain tree shows for each cell; only a directory has a parent, and only a number that is
+-- not a directory has links
 abbrev pub view_in : PlainTree → View
 view_in p (Entry entry) = finite.get p.edges entry
 view_in p (Names d) = names_in p d

@@ -1,4 +1,4 @@
--- The code of a plain tree, by which it can stand in what clauses see of a struct.
+-- The code of a plain tree, by which it can be part of what clauses see of a struct.
 use Rattle.std.specs.Prelude.{Option, refl}
 use Rattle.std.specs.Ordering.{nat_cmp}
 use Rattle.std.specs.FinMap as finite
@@ -20,7 +20,7 @@ use Rattle.ft_cells.specs.Plain.{PlainFile, PlainDirs, PlainFiles, PlainTree}
 abbrev pub coded_file : Coded PlainFile
 coded_file = code_by (Option Attributes × Contents) (coded× (coded_option attributes.the_row.coded) coded_contents) (λ f. (f.attributes, f.contents)) (λ p. record { attributes = p.0; contents = p.1 }) (λ _. refl)
 
--- how a plain tree is coded. Nothing a reader has to know.
+-- how a plain tree is coded. A reader does not need to know this.
 abbrev pub coded_tree : Coded PlainTree
 coded_tree =
     code_by (TreeLimits × (finite.FinMap entry_cmp Node × (PlainDirs × (PlainFiles × finite.FinMap nat_cmp OpenFile))))

@@ -1,4 +1,4 @@
--- What a tree holds, row by row. (A rule of this project.)
+-- The content of a tree, row by row. (A rule of this project.)
 use Rattle.std.specs.Prelude.{ℕ, List, ◌++◌, map, length, Option}
 use Rattle.std.specs.List.{filter_map}
 use Rattle.std.specs.Option.{option_map}
@@ -28,27 +28,27 @@ named_rows d names = map (λ e. EdgeRow (entry_at d e.0) e.1) names
 abbrev pub file_rows : List (ℕ × PlainFile) → List TreeRow
 file_rows files = map (λ e. FileRow e.0 (length e.1.contents.bytes) e.1.contents.bytes) files
 
--- the row of attributes, where some are kept
+-- the row of attributes, if some are stored
 abbrev pub attributes_row : ℕ × Option Attributes → Option TreeRow
 attributes_row e = option_map (λ a. AttributesRow e.0 a) e.1
 
--- the row of a file's attributes, where some are kept
+-- the row of the attributes of a file, if some are stored
 abbrev pub file_attributes_row : ℕ × PlainFile → Option TreeRow
 file_attributes_row e = attributes_row (e.0, e.1.attributes)
 
--- the row of the time of a file's bytes, where one was set
+-- the row of the time of the bytes of a file, if a time was set
 abbrev pub time_row : ℕ × PlainFile → Option TreeRow
 time_row e = option_map (λ time. TimeRow e.0 time) e.1.contents.time
 
--- the rows of the attributes that are kept of directories
+-- the rows of the attributes that are stored of directories
 abbrev pub dir_attributes_rows : List (ℕ × Option Attributes) → List TreeRow
 dir_attributes_rows dirs = filter_map attributes_row dirs
 
--- the rows of those that are kept of files
+-- the rows of the attributes that are stored of files
 abbrev pub file_attributes_rows : List (ℕ × PlainFile) → List TreeRow
 file_attributes_rows files = filter_map file_attributes_row files
 
--- the rows of times
+-- the rows of the times of files
 abbrev pub time_rows : List (ℕ × PlainFile) → List TreeRow
 time_rows files = filter_map time_row files
 
@@ -56,9 +56,9 @@ time_rows files = filter_map time_row files
 abbrev pub open_rows : List (ℕ × OpenFile) → List TreeRow
 open_rows opens = map (λ e. FdRow e.0 e.1.file e.1.access e.1.append e.1.offset) opens
 
--- the directories by number, then the edges by directory and name, the files by number, what is
--- kept of attributes, of directories and then of files by number, the times of files by number, and
--- the descriptions by descriptor
+-- the rows of a tree. First come the directories by number, the edges by directory and name, and
+-- the files by number. Then come the stored attributes, of directories and then of files, by
+-- number. Last come the times of files by number, and the descriptions by descriptor.
 abbrev pub rows_of : PlainTree → List TreeRow
 rows_of p =
     dir_rows (finite.entries p.dirs) ++ edge_rows (finite.entries p.edges) ++ file_rows (finite.entries p.files)

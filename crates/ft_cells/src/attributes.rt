@@ -1,43 +1,45 @@
-// Modes and owners, and the time of the bytes of a file.
+// Modes and owners, and the times of the bytes of files.
 ghost use Rattle.std.specs.Prelude.{◌≡◌};
 ghost use Rattle.ft_cells.specs.Attributes.{default_attributes, kept_attributes};
 
 use crate::node::Kind;
 
-/// The largest mode: it has twelve bits (POSIX.1-2017, Base Definitions, sys/stat.h: `S_IRWXU`,
+/// The largest mode. It has twelve bits (POSIX.1-2017, Base Definitions, sys/stat.h: `S_IRWXU`,
 /// `S_IRWXG`, `S_IRWXO`, `S_ISUID`, `S_ISGID` and `S_ISVTX`).
 pub const MOST_MODE: u16 = 0o7777;
 
-/// The most nanoseconds that a time has beside its seconds (POSIX.1-2017, Base Definitions,
+/// The most nanoseconds that a time has in addition to its seconds (POSIX.1-2017, Base Definitions,
 /// time.h: `struct timespec`).
 pub const MOST_NANOSECONDS: u32 = 999_999_999;
 
-/// The mode of a directory where none is set, a rule of this project.
+/// The mode of a directory if none is set, a rule of this project.
 pub const DIRECTORY_MODE: u16 = 0o755;
 
-/// The mode of a regular file where none is set, a rule of this project.
+/// The mode of a regular file if none is set, a rule of this project.
 pub const FILE_MODE: u16 = 0o644;
 
-/// The mode of a symbolic link. POSIX leaves it open (System Interfaces, lstat), and it has no
-/// meaning; this one is a rule of this project.
+/// The mode of a symbolic link, a rule of this project. POSIX leaves this mode open (System
+/// Interfaces, lstat), and it has no meaning.
 pub const LINK_MODE: u16 = 0o777;
 
 /// The mode and the owners of a directory or file (POSIX.1-2017, Base Definitions, sys/stat.h:
-/// `st_mode`, `st_uid` and `st_gid`). No access is checked by them: a tree is that of a process
-/// with appropriate privileges (4.5 File Access Permissions).
+/// `st_mode`, `st_uid` and `st_gid`).
+///
+/// They are not used to check access. A tree is that of a process with appropriate privileges (4.5
+/// File Access Permissions).
 #[derive(Clone, Copy, Debug, PartialEq, Eq)]
 pub struct Attributes {
     /// The file mode bits.
     pub mode: u16,
-    /// The user that owns it.
+    /// The user that owns the directory or file.
     pub owner: u32,
-    /// Its group.
+    /// The group of the directory or file.
     pub group: u32,
 }
 
 impl Attributes {
-    /// Those that a directory or file of a kind has where none are set: owner and group are 0, a
-    /// rule of this project.
+    /// Returns the attributes that a directory or file of a kind has if none are set. Its owner and
+    /// group are 0, a rule of this project.
     pub fn of(kind: Kind) -> Attributes
         ensures { result ≡ default_attributes kind }
     {
@@ -53,8 +55,8 @@ impl Attributes {
         }
     }
 
-    /// What is kept of them, at a directory or file of a kind: nothing, where they are those that
-    /// it has anyway.
+    /// Returns what is stored of these attributes for a directory or file of a kind: nothing, if
+    /// they are the defaults of that kind.
     pub fn kept(self, kind: Kind) -> Option<Attributes>
         ensures { result ≡ kept_attributes kind self }
     {
@@ -66,11 +68,11 @@ impl Attributes {
     }
 }
 
-/// A time, since the Epoch (POSIX.1-2017, Base Definitions, time.h: `struct timespec`).
+/// A time since the Epoch (POSIX.1-2017, Base Definitions, time.h: `struct timespec`).
 #[derive(Clone, Copy, Debug, PartialEq, Eq)]
 pub struct Timestamp {
-    /// Whole seconds; before the Epoch there are less than none.
+    /// Whole seconds. The number is negative before the Epoch.
     pub seconds: i64,
-    /// Nanoseconds beside them.
+    /// Nanoseconds in addition to the seconds.
     pub nanoseconds: u32,
 }

@@ -11,22 +11,25 @@ use std::alloc::AllocError;
 use std::cmp::Ordering;
 use std::hash::{Hash, Hasher};
 
-/// A part of a tree that calls read and write as one; locks are taken on cells.
+/// A part of a tree that calls read and write as one. Locks are taken on cells.
 ///
-/// Two cells overlap when they are the same, or when one is the names of a directory and the other
-/// an entry of it. The order is that in which locks are listed: by the kind of cell, as they stand
-/// here, then by its number, and then by its name. A rule of this project.
+/// Two cells overlap if they are the same. They also overlap if one is the names of a directory and
+/// the other is an entry of that directory.
+///
+/// Locks are listed in the order of cells: by the kind of cell, in the order below, then by number,
+/// and then by name. This order is a rule of this project.
 #[derive(Debug, Drop)]
 pub enum Cell {
-    /// What a name leads to in a directory, if it is an entry.
+    /// The target of a name in a directory, if the name is an entry.
     Entry(Entry),
-    /// All names of a directory with what they lead to. It is read, and never written as a whole.
+    /// All names of a directory, with what they lead to. This cell is read, but it is never written
+    /// as a whole.
     Names(u64),
-    /// The directory that has a directory's entry: its parent. The root has none.
+    /// The parent of a directory: the directory that has its entry. The root has none.
     Parent(u64),
-    /// How many entries name a file.
+    /// The number of entries that name a file.
     Links(u64),
-    /// The bytes of a file, and their time.
+    /// The bytes of a file, and the time of these bytes.
     Bytes(u64),
     /// The open file description of a descriptor.
     Fd(u64),
@@ -39,7 +42,7 @@ pub enum Cell {
 impl Cell {
     ghost use Rattle.ft_cells.specs.declared.cell.Cell.TheVariants.{Entry as EntryCell};
 
-    /// How the cell of an entry stands to this cell, in the order of cells.
+    /// Returns how the cell of an entry compares to this cell in the order of cells.
     pub fn cmp_entry(&self, entry: EntryRef<'_>) -> Ordering
         ensures { result ≡ cell_cmp (EntryCell (entry_in entry.entry)) self.now }
     {
@@ -52,7 +55,7 @@ impl Cell {
         }
     }
 
-    /// The place of its kind among the kinds.
+    /// Returns the rank of the kind of this cell in the order of cells.
     fn rank(&self) -> u8
         ensures { result ≡ cell_rank self.now }
     {
@@ -68,7 +71,7 @@ impl Cell {
         }
     }
 
-    /// The number of its directory, file or descriptor.
+    /// Returns the number of the cell: that of its directory, file or descriptor.
     fn number(&self) -> u64
         ensures { result ≡ cell_number self.now }
     {
@@ -84,7 +87,7 @@ impl Cell {
         }
     }
 
-    /// The bytes of its name, where it is an entry.
+    /// Returns the bytes of the name if the cell is an entry, or no bytes.
     fn name(&self) -> &[u8]
         ensures { result.now ≡ cell_name self.now }
     {
@@ -102,8 +105,8 @@ impl PartialEq for Cell {
 
     fn eq(&self, other: &Cell) -> bool {
         match self {
-            // This is how tables look for entries; most names differ in how they begin, as one
-            // number.
+            // Tables look for entries by this comparison. Most names differ in their first bytes,
+            // which are compared as one number.
             Cell::Entry(entry) => other.cmp_entry(entry.as_ref()).is_eq(),
             _ => self.cmp(other).is_eq(),
         }
@@ -162,9 +165,11 @@ impl Clone for Cell {
 }
 
 impl Hash for Cell {
-    ghost hash_input = { λ cell. fed.u64 (cell_number cell) ++ fed.u8 (cell_rank cell) ++ cell_name cell ∷ [] };
+    ghost hash_input = { λ cell. fed.u64 (cell_number cell) ++ fed.u8 (cell_rank cell)
+        ++ cell_name cell ∷ [] };
 
-    ghost respects_eq = { λ x y same. ap (λ cell. fed.u64 (cell_number cell) ++ fed.u8 (cell_rank cell) ++ cell_name cell ∷ []) (same_cell-is x y same) };
+    ghost respects_eq = { λ x y same. ap (λ cell. fed.u64 (cell_number cell)
+        ++ fed.u8 (cell_rank cell) ++ cell_name cell ∷ []) (same_cell-is x y same) };
 
     fn hash<H: Hasher>(&self, state: &mut H) {
         state.write_u64(self.number());

@@ -1,4 +1,4 @@
-// The entry of a name in a directory.
+// The entries of names in directories.
 ghost use Rattle.std.specs.Prelude.{◌≡◌, IfOk};
 ghost use Rattle.ft_cells.specs.Entries.{entry_in};
 
@@ -6,20 +6,20 @@ use ft_base::Memory;
 use ft_path::Name;
 use std::alloc::AllocError;
 
-/// A name in a directory: the place of one entry, whether the name is one or not.
+/// A name in a directory. It is the place of one entry, whether or not the name is an entry now.
 ///
-/// POSIX.1-2017, Base Definitions, 3 (Directory Entry). That directories have numbers is a rule of
-/// this project.
+/// See POSIX.1-2017, Base Definitions, 3 (Directory Entry). That directories have numbers is a rule
+/// of this project.
 #[derive(Debug, PartialEq, Eq, Drop)]
 pub struct Entry {
     /// The number of the directory.
     pub dir: u64,
-    /// The name in it.
+    /// The name in that directory.
     pub name: Name,
 }
 
 impl Entry {
-    /// The same entry, with its name borrowed.
+    /// Returns this entry with its name borrowed.
     pub fn as_ref(&self) -> EntryRef<'_>
         ensures { entry_in result ≡ self.now }
     {
@@ -43,12 +43,12 @@ impl Clone for Entry {
 pub struct EntryRef<'a> {
     /// The number of the directory.
     pub dir: u64,
-    /// The name in it.
+    /// The name in that directory.
     pub name: &'a Name,
 }
 
 impl EntryRef<'_> {
-    /// The same entry, with a name of its own. Refuses want of memory.
+    /// Returns this entry with a name of its own. Out of memory is the only error.
     pub fn to_entry(self) -> Result<Entry, Memory>
         ensures { IfOk result (λ entry. entry ≡ entry_in self.entry) }
     {

@@ -1,25 +1,29 @@
-// Where an inode was seen last.
+// Hints: where an inode was last seen.
 ghost use Rattle.std.specs.Prelude.{◌≡◌};
 ghost use Rattle.std.specs.Option.{option_copied, option_flatten, option_map};
 
 use std::alloc::AllocError;
 use std::marker::Model;
 
-/// The key under which an inode was seen last. It is no promise: the inode may stand there no more,
-/// and another in its place. Who has it looks there first, and asks the index where it is wrong.
+/// The key under which an inode was last seen.
+///
+/// A hint may be wrong: the inode may no longer be under this key, and another may be there
+/// instead. A lookup tries the hint first. If the hint is wrong, the lookup uses the index.
 #[derive(Clone, Copy, Debug, PartialEq, Eq)]
 pub struct Hint {
     pub key: usize,
 }
 
 impl Hint {
-    /// The key that the first inode of a store gets.
+    /// Returns the key that the first inode of a store gets.
     pub fn first() -> Hint {
         Hint { key: 0 }
     }
 }
 
-/// What leads to an inode, with where that was seen last. Clauses see it without.
+/// A value that leads to an inode, with a hint of where that inode was last seen.
+///
+/// Clauses see the value without the hint.
 #[derive(Drop)]
 pub struct Hinted<T> {
     value: T,
@@ -35,7 +39,7 @@ impl<T> Model for Hinted<T> {
 }
 
 impl<T: Copy> Hinted<T> {
-    /// What leads to the inode.
+    /// Returns the value without its hint.
     pub fn value(&self) -> T
         ensures { result ≡ self.now }
     {
@@ -54,7 +58,7 @@ impl<T: Copy> Clone for Hinted<T> {
     }
 }
 
-/// What is to stand in a place, with where that leads.
+/// Returns the new content of a place: the value with its hint, or nothing if there is no value.
 pub fn with_hint<T: Copy>(to: Option<T>, near: Hint) -> Option<Hinted<T>>
     ensures { result ≡ to }
 {
@@ -64,7 +68,8 @@ pub fn with_hint<T: Copy>(to: Option<T>, near: Hint) -> Option<Hinted<T>>
     }
 }
 
-/// What stood in a place, where that was there.
+/// Returns the previous content of a place without its hint. The outer `None` means that there was
+/// no such place, and the inner one that the place was empty.
 pub fn value_in<T: Copy>(was: Option<Option<Hinted<T>>>) -> Option<Option<T>>
     ensures { result ≡ was }
 {
@@ -75,7 +80,7 @@ pub fn value_in<T: Copy>(was: Option<Option<Hinted<T>>>) -> Option<Option<T>>
     }
 }
 
-/// What stands in a place, and where that may lead.
+/// Returns the value in a place and its hint, if there is such a place and it is not empty.
 pub fn seen_in<T: Copy>(place: Option<&Option<Hinted<T>>>) -> Option<(T, Hint)>
     ensures { option_map (λ seen. seen.0) result ≡ option_flatten (option_copied place.entry) }
 {

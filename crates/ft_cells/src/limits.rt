@@ -1,16 +1,16 @@
-// What a tree allows.
+// The limits of a tree.
 ghost use Rattle.std.specs.Prelude.{◌≡◌};
 ghost use Rattle.ft_cells.specs.Limits.{default_limits};
 
 use crate::{DEFAULT_FILE_SIZE, DEFAULT_LINKS};
 
-/// What a tree allows, as POSIX.1-2017 has it of a file system (System Interfaces, pathconf:
-/// FILESIZEBITS and LINK_MAX). No call changes it.
+/// The limits of a tree, like those that POSIX.1-2017 has for a file system (System Interfaces,
+/// pathconf: FILESIZEBITS and LINK_MAX). No call changes them.
 #[derive(Clone, Copy, Debug, PartialEq, Eq)]
 pub struct TreeLimits {
-    /// How many bytes a file may have.
+    /// The most bytes that a file may have.
     pub file_size: u64,
-    /// How many entries may name a file.
+    /// The most entries that may name a file.
     pub links: u64,
 }
 

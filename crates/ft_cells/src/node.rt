@@ -1,6 +1,6 @@
 use crate::entry::Entry;
 
-/// What a number stands for. It never changes.
+/// The kind of what a number names. The kind of a number never changes.
 #[derive(Clone, Copy, Debug, PartialEq, Eq)]
 pub enum Kind {
     /// A directory.
@@ -11,7 +11,7 @@ pub enum Kind {
     Link,
 }
 
-/// What a file is that is no directory (POSIX.1-2017, Base Definitions, 3, File).
+/// The form of a file that is not a directory (POSIX.1-2017, Base Definitions, 3, File).
 #[derive(Clone, Copy, Debug, PartialEq, Eq)]
 pub enum Form {
     /// A regular file.
@@ -20,12 +20,12 @@ pub enum Form {
     Link,
 }
 
-/// What an entry leads to: a number with its kind.
+/// The target of an entry: a number and its kind.
 #[derive(Clone, Copy, Debug, PartialEq, Eq)]
 pub enum Node {
-    /// The directory of this number.
+    /// The directory with this number.
     Dir(u64),
-    /// The file of this form and number.
+    /// The file with this form and number.
     File(Form, u64),
 }
 
@@ -33,7 +33,7 @@ impl Node {
     ghost use Rattle.std.specs.Prelude.{◌≡◌};
     ghost use Rattle.ft_cells.specs.Nodes.{kind_of_node, number_of};
 
-    /// Whether it is a directory, a regular file or a symbolic link.
+    /// Returns whether the node is a directory, a regular file or a symbolic link.
     pub fn kind(self) -> Kind
         ensures { result ≡ kind_of_node self }
     {
@@ -44,7 +44,7 @@ impl Node {
         }
     }
 
-    /// Its number.
+    /// Returns the number of the node.
     pub fn number(self) -> u64
         ensures { result ≡ number_of self }
     {
@@ -54,28 +54,28 @@ impl Node {
     }
 }
 
-/// Where a walk ends (POSIX.1-2017, Base Definitions, 4.13 Pathname Resolution).
+/// The end of a walk along a path (POSIX.1-2017, Base Definitions, 4.13 Pathname Resolution).
 #[derive(Debug, Drop)]
-pub enum Spot {
-    /// At a last name that is neither `.` nor `..`, with its directory; it leads to `node`, or is
-    /// no entry there. A slash may follow it.
+pub enum PathEnd {
+    /// The walk ends at a last name that is neither `.` nor `..`, in a directory. The name leads to
+    /// `node`, or it is not an entry there. `slash` is whether a slash follows the name.
     Named {
         entry: Entry,
         node: Option<Node>,
         slash: bool,
     },
-    /// At the directory of this number, with no entry of its own in the path: at the root, where a
-    /// path has no components, or where a last `.` or `..` leads.
+    /// The walk ends at the directory with this number, which has no entry of its own in the path.
+    /// This is the root, if the path has no components, or where a last `.` or `..` leads.
     Itself(u64),
 }
 
-/// What a path leads to (POSIX.1-2017, Base Definitions, 4.13 Pathname Resolution).
+/// The result of resolving a path (POSIX.1-2017, Base Definitions, 4.13 Pathname Resolution).
 #[derive(Clone, Copy, Debug, PartialEq, Eq)]
 pub enum Found {
-    /// The place of a plain last name in the directory `dir`, and the number that stands there, if
-    /// one does.
+    /// The place of a plain last name in the directory `dir`, and the number that is in this place,
+    /// if there is one.
     Place { dir: u64, number: Option<u64> },
-    /// An existing directory without an entry of its own in the path: the root, or one that a last
-    /// `.` or `..` names.
+    /// An existing directory that has no entry of its own in the path: the root, or a directory
+    /// that a last `.` or `..` names.
     Whole { number: u64 },
 }

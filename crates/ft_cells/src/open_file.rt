@@ -1,12 +1,13 @@
 // Open file descriptions.
-/// How a file is open (POSIX.1-2017, Base Definitions, fcntl.h: O_RDONLY, O_WRONLY and O_RDWR).
+/// The mode in which a file is open (POSIX.1-2017, Base Definitions, fcntl.h: O_RDONLY, O_WRONLY
+/// and O_RDWR).
 #[derive(Clone, Copy, Debug, PartialEq, Eq)]
 pub enum AccessMode {
-    /// For reading alone.
+    /// The file is open only for reading.
     ReadOnly,
-    /// For writing alone.
+    /// The file is open only for writing.
     WriteOnly,
-    /// For both.
+    /// The file is open for both reading and writing.
     ReadWrite,
 }
 
@@ -14,7 +15,7 @@ impl AccessMode {
     ghost use Rattle.std.specs.Prelude.{◌≡◌};
     ghost use Rattle.ft_cells.specs.Modes.{can_read, can_write};
 
-    /// Whether it lets one read.
+    /// Returns whether the mode allows reading.
     pub fn can_read(self) -> bool
         ensures { result ≡ can_read self }
     {
@@ -24,7 +25,7 @@ impl AccessMode {
         }
     }
 
-    /// Whether it lets one write.
+    /// Returns whether the mode allows writing.
     pub fn can_write(self) -> bool
         ensures { result ≡ can_write self }
     {
@@ -40,10 +41,10 @@ impl AccessMode {
 pub struct OpenFile {
     /// The number of the file.
     pub file: u64,
-    /// How it is open.
+    /// The mode in which the file is open.
     pub access: AccessMode,
     /// Whether each write goes to the end of the file (O_APPEND).
     pub append: bool,
-    /// The offset, in bytes, at which the next read or write is.
+    /// The offset, in bytes, of the next read or write.
     pub offset: u64,
 }

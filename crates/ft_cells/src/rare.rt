@@ -1,12 +1,14 @@
-// What is seldom there.
+// Values that are seldom present.
 ghost use Rattle.std.specs.Prelude.{◌≡◌, None, IfOk, IsOk};
 
 use ft_base::Memory;
 use std::alloc::{AllocError, Global};
 use std::marker::Model;
 
-/// A value that is seldom there. It stands apart, so that where it is not, there is only room for
-/// a pointer. Clauses see it as an option.
+/// A value that is seldom present. The value is stored apart, so an absent value needs room only
+/// for a pointer.
+///
+/// Clauses see it as an option.
 #[derive(Debug, Drop)]
 pub struct Rare<T> {
     value: Option<Box<T>>,
@@ -25,7 +27,7 @@ impl<T> Model for Rare<T> {
 }
 
 impl<T> Rare<T> {
-    /// No value. Takes no memory.
+    /// Returns no value. Takes no memory.
     pub fn none() -> Rare<T>
         ensures { result ≡ None }
     {
@@ -34,7 +36,8 @@ impl<T> Rare<T> {
 }
 
 impl<T: Copy> Rare<T> {
-    /// The value, if there is one. Refuses want of memory; where there is none, it takes none.
+    /// Returns this value, stored apart, or no value. Out of memory is the only error, and it
+    /// cannot occur without a value.
     pub fn new(alloc: Global, value: Option<T>) -> Result<Rare<T>, Memory>
         ensures value { IfOk result (λ rare. rare ≡ value) }
         ensures nothing { value ≡ None → IsOk result }
@@ -47,7 +50,7 @@ impl<T: Copy> Rare<T> {
         }
     }
 
-    /// The value, if there is one.
+    /// Returns the value, if there is one.
     pub fn get(&self) -> Option<T>
         ensures { result ≡ self.now }
     {

@@ -8,8 +8,8 @@ use Rattle.clap.specs.declared.builder.command.Command.TheViews.{out-Command}
 use Rattle.clap.specs.declared.builder.value_parser.ValueParser.TheVariants.{Unsigned}
 use Rattle.clap.specs.declared.error.kind.ErrorKind.{ErrorKind}
 use Rattle.clap.specs.declared.error.kind.ErrorKind.TheVariants.{DisplayHelp, DisplayVersion, OutOfMemory}
-use Rattle.ft_moss.specs.declared.rule.Rule.{Rule as LockRule}
-use Rattle.ft_moss.specs.Rules.{is_strict}
+use Rattle.ft_lock_rules.specs.declared.rule.Rule.{Rule as LockRule}
+use Rattle.ft_lock_rules.specs.Rules.{is_strict}
 use Rattle.ft_command.specs.Limits.{HasBadLimit, TellsLimits, limited}
 use Rattle.ft_command.specs.declared.limits.AskedLimits.{AskedLimits}
 use Rattle.ft_command.specs.declared.choice.AskedPace.{AskedPace}

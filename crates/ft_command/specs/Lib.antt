@@ -1,2 +1,4 @@
-pub mod Limits
+-- What callers cite.
 pub mod CommandLine
+-- What the crate keeps true of itself.
+pub mod Limits

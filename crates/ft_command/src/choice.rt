@@ -8,7 +8,7 @@ use crate::limits::{AskedLimits, Flag, asked_limits, with_limits};
 use clap::builder::ValueParser;
 use clap::error::ErrorKind;
 use clap::{Arg, ArgAction, ArgMatches, Command, Error};
-use ft_moss::Rule;
+use ft_lock_rules::Rule;
 use std::alloc::{AllocError, Global};
 use std::convert::AsStr;
 
@@ -76,18 +76,19 @@ pub struct AskedPace {
     pub threads: u64,
 }
 
-// Examples: a script is run, its waits-for edges are drawn, the jobs of a plan are run, and jobs
-// begin with the files of one directory and end with those of another.
-const EXAMPLE: &str =
-    "Example:\n  ft_run play < script.ft\n  ft_run play < script.ft | ft_run dot | dot -Tsvg > waits.svg\n  ft_run jobs build.plan\n  ft_run load src > src.ft\n  ft_run jobs build.plan --after src.ft | ft_run save out";
+/// Examples: a script is run, its waits-for edges are drawn, the jobs of a plan are run, and jobs
+/// begin with the files of one directory and end with those of another.
+const EXAMPLE: &str = "Example:\n  ft_run play < script.ft\n  \
+        ft_run play < script.ft | ft_run dot | dot -Tsvg > waits.svg\n  ft_run jobs build.plan\n  \
+        ft_run load src > src.ft\n  ft_run jobs build.plan --after src.ft | ft_run save out";
 
-// The version of the program, which is that of the library.
+/// The version of the program, which is that of the library.
 const VERSION: &str = "0.1.0";
 
-// The greatest number of attempts that may be set for a call of a job.
+/// The greatest number of attempts that may be set for a call of a job.
 const MOST_TURNS: u64 = 1_000_000;
 
-// The most threads that jobs may be given.
+/// The most threads that jobs may be given.
 const MOST_THREADS: u64 = 4096;
 
 /// Returns the task that the arguments after the program's name request.
@@ -105,7 +106,8 @@ pub fn choose<'a, S: AsStr>(alloc: Global, words: &'a [S]) -> Choice
     }
 }
 
-// The choice if the words could be read. The crate that reads them knows no other subcommand.
+/// Returns the choice if the words could be read. The crate that reads them knows no other
+/// subcommand.
 fn choice_of(alloc: Global, matches: &ArgMatches) -> Choice
     ensures { ReadChoice (subcommand_rows_of matches.now) result }
 {
@@ -127,7 +129,7 @@ fn choice_of(alloc: Global, matches: &ArgMatches) -> Choice
     }
 }
 
-// The choice if a script is to be run.
+/// Returns the choice if a script is to be run.
 fn play_choice(alloc: Global, found: &ArgMatches) -> Choice
     ensures { ReadChoice (Some (codes "play", rows_of (found_of found.now))) result }
 {
@@ -148,7 +150,7 @@ fn play_choice(alloc: Global, found: &ArgMatches) -> Choice
     }
 }
 
-// The choice if a report is to be drawn. The limits are for the other commands of a pipe.
+/// Returns the choice if a report is to be drawn. The limits are for the other commands of a pipe.
 fn dot_choice(alloc: Global, found: &ArgMatches) -> Choice
     ensures { ReadChoice (Some (codes "dot", rows_of (found_of found.now))) result }
 {
@@ -158,14 +160,16 @@ fn dot_choice(alloc: Global, found: &ArgMatches) -> Choice
     }
 }
 
-// The choice if the value of a flag is no limit.
+/// Returns the choice if the value of a flag is no limit.
 fn misused(alloc: Global, found: &ArgMatches, flag: Flag) -> Choice
-    ensures { (name : Text) → IsBadLimit flag (rows_of (found_of found.now)) → ReadChoice (Some (name, rows_of (found_of found.now))) result }
+    ensures { (name : Text) → IsBadLimit flag (rows_of (found_of found.now))
+        → ReadChoice (Some (name, rows_of (found_of found.now))) result }
 {
     let name = flag.name();
     let value = found.get_str(name).unwrap_or("");
     let text = format!(in alloc;
-        "error: invalid value '{value}' for '--{name} <N>': it is neither {} nor none\n\nFor more information, try '--help'.\n",
+        "error: invalid value '{value}' for '--{name} <N>': it is neither {} nor none\n\n\
+            For more information, try '--help'.\n",
         flag.values()
     );
     match text {
@@ -174,7 +178,7 @@ fn misused(alloc: Global, found: &ArgMatches, flag: Flag) -> Choice
     }
 }
 
-// The choice if a directory is to be loaded.
+/// Returns the choice if a directory is to be loaded.
 fn load_choice(alloc: Global, found: &ArgMatches) -> Choice
     ensures { ReadChoice (Some (codes "load", rows_of (found_of found.now))) result }
 {
@@ -199,7 +203,7 @@ fn load_choice(alloc: Global, found: &ArgMatches) -> Choice
     }
 }
 
-// The choice if a directory is to be saved.
+/// Returns the choice if a directory is to be saved.
 fn save_choice(alloc: Global, found: &ArgMatches) -> Choice
     ensures { ReadChoice (Some (codes "save", rows_of (found_of found.now))) result }
 {
@@ -222,7 +226,7 @@ fn save_choice(alloc: Global, found: &ArgMatches) -> Choice
     }
 }
 
-// The choice if the jobs of a plan are to be run.
+/// Returns the choice if the jobs of a plan are to be run.
 fn jobs_choice(alloc: Global, found: &ArgMatches) -> Choice
     ensures { ReadChoice (Some (codes "jobs", rows_of (found_of found.now))) result }
 {
@@ -247,9 +251,11 @@ fn jobs_choice(alloc: Global, found: &ArgMatches) -> Choice
     }
 }
 
-// The file of the script that is to be played first. There may be no memory for its name.
+/// Returns the file of the script that is to be played first. Fails if there is not enough memory
+/// for its name.
 fn asked_after(alloc: Global, found: &ArgMatches) -> Result<Option<String>, AllocError>
-    ensures { IfOk result (λ after. TellsAfter (rows_of (found_of found.now)) (option_map string_bytes after)) }
+    ensures { IfOk result (λ after. TellsAfter (rows_of (found_of found.now))
+        (option_map string_bytes after)) }
 {
     match found.get_str("after") {
         Some(file) => {
@@ -260,7 +266,7 @@ fn asked_after(alloc: Global, found: &ArgMatches) -> Result<Option<String>, Allo
     }
 }
 
-// The directory that is named. There may be no memory for its name.
+/// Returns the directory that is named. Returns `None` if there is not enough memory for its name.
 fn asked_dir(alloc: Global, found: &ArgMatches) -> Option<String>
     ensures { IfSome result (λ dir. TellsDir (rows_of (found_of found.now)) (string_bytes dir)) }
 {
@@ -269,14 +275,14 @@ fn asked_dir(alloc: Global, found: &ArgMatches) -> Option<String>
     Some(dir)
 }
 
-// Whether each line must do what it requests.
+/// Returns whether each line must do what it requests.
 fn asked_strict(found: &ArgMatches) -> bool
     ensures { IsFlag (one_of (codes "strict") (rows_of (found_of found.now))) result }
 {
     found.get_flag("strict")
 }
 
-// The rule by which calls are to be granted.
+/// Returns the rule by which calls are to be granted.
 fn asked_rule(found: &ArgMatches) -> Rule
     ensures { TellsRule (rows_of (found_of found.now)) result }
 {
@@ -287,10 +293,12 @@ fn asked_rule(found: &ArgMatches) -> Rule
     }
 }
 
-// The file and the pace that `jobs` was given, and whether it is to be quiet. There may be no
-// memory for the name of the file. (The crate that reads the words lets no 0 through.)
+/// Returns the file and the pace that `jobs` was given, and whether it is to be quiet. Returns
+/// `None` if there is not enough memory for the name of the file. (The crate that reads the words
+/// refuses 0.)
 fn asked_of_jobs(alloc: Global, found: &ArgMatches) -> Option<(String, AskedPace, bool)>
-    ensures { IfSome result (λ asked. TellsJobs (rows_of (found_of found.now)) (string_bytes asked.0) asked.1 asked.2) }
+    ensures { IfSome result (λ asked. TellsJobs (rows_of (found_of found.now))
+        (string_bytes asked.0) asked.1 asked.2) }
 {
     let file = found.get_str("file")?;
     let turns = found.get_one::<u64>("turns")?;
@@ -302,7 +310,7 @@ fn asked_of_jobs(alloc: Global, found: &ArgMatches) -> Option<(String, AskedPace
     Some((file, AskedPace { turns, threads }, found.get_flag("quiet")))
 }
 
-// The command line of the program.
+/// Returns the command line of the program.
 fn program<'a>(alloc: Global) -> Result<Command<'a>, AllocError>
     ensures { IfOk result (λ command. app_of command ≡ program) }
 {
@@ -310,7 +318,7 @@ fn program<'a>(alloc: Global) -> Result<Command<'a>, AllocError>
     with_folders(alloc)?.subcommand(jobs)
 }
 
-// All of it but the jobs of a plan.
+/// Returns the command line without the jobs of a plan.
 fn with_folders<'a>(alloc: Global) -> Result<Command<'a>, AllocError>
     ensures { IfOk result (λ command. app_of command ≡ with_folders) }
 {
@@ -319,7 +327,7 @@ fn with_folders<'a>(alloc: Global) -> Result<Command<'a>, AllocError>
     with_filters(alloc)?.subcommand(load)?.subcommand(save)
 }
 
-// All of it but directories and the jobs of a plan.
+/// Returns the command line without directories and the jobs of a plan.
 fn with_filters<'a>(alloc: Global) -> Result<Command<'a>, AllocError>
     ensures { IfOk result (λ command. app_of command ≡ with_filters) }
 {
@@ -328,7 +336,7 @@ fn with_filters<'a>(alloc: Global) -> Result<Command<'a>, AllocError>
     bare(alloc).subcommand(play)?.subcommand(dot)
 }
 
-// The command line without its subcommands.
+/// Returns the command line without its subcommands.
 fn bare<'a>(alloc: Global) -> Command<'a>
     ensures { app_of result ≡ bare }
 {
@@ -340,7 +348,7 @@ fn bare<'a>(alloc: Global) -> Command<'a>
         .after_help(EXAMPLE)
 }
 
-// The part of it that runs a script.
+/// Returns the subcommand that runs a script.
 fn play_command<'a>(alloc: Global) -> Result<Command<'a>, AllocError>
     ensures app { IfOk result (λ command. app_of command ≡ play) }
     ensures local { IfOk result HasNoGlobals }
@@ -353,7 +361,7 @@ fn play_command<'a>(alloc: Global) -> Result<Command<'a>, AllocError>
     with_limits(alloc, command)
 }
 
-// The part of it that draws which transaction waits for which.
+/// Returns the subcommand that draws which transaction waits for which.
 fn dot_command<'a>(alloc: Global) -> Result<Command<'a>, AllocError>
     ensures app { IfOk result (λ command. app_of command ≡ dot) }
     ensures local { IfOk result HasNoGlobals }
@@ -364,7 +372,7 @@ fn dot_command<'a>(alloc: Global) -> Result<Command<'a>, AllocError>
     with_limits(alloc, command)
 }
 
-// The part of it that writes a script of a directory.
+/// Returns the subcommand that writes a script of a directory.
 fn load_command<'a>(alloc: Global) -> Result<Command<'a>, AllocError>
     ensures app { IfOk result (λ command. app_of command ≡ load) }
     ensures local { IfOk result HasNoGlobals }
@@ -379,7 +387,7 @@ fn load_command<'a>(alloc: Global) -> Result<Command<'a>, AllocError>
     with_limits(alloc, command)
 }
 
-// The part of it that makes a directory.
+/// Returns the subcommand that makes a directory.
 fn save_command<'a>(alloc: Global) -> Result<Command<'a>, AllocError>
     ensures app { IfOk result (λ command. app_of command ≡ save) }
     ensures local { IfOk result HasNoGlobals }
@@ -393,7 +401,7 @@ fn save_command<'a>(alloc: Global) -> Result<Command<'a>, AllocError>
     with_limits(alloc, command)
 }
 
-// The part of it that runs the jobs of a plan.
+/// Returns the subcommand that runs the jobs of a plan.
 fn jobs_command<'a>(alloc: Global) -> Result<Command<'a>, AllocError>
     ensures app { IfOk result (λ command. app_of command ≡ jobs) }
     ensures local { IfOk result HasNoGlobals }
@@ -409,7 +417,7 @@ fn jobs_command<'a>(alloc: Global) -> Result<Command<'a>, AllocError>
     with_limits(alloc, command)
 }
 
-// The directory of it.
+/// Returns the argument of the directory.
 fn dir_arg<'a>(alloc: Global) -> Arg<'a>
     ensures rule { rule_of result ≡ dir_rule }
     ensures local { result.global ≡ false }
@@ -420,7 +428,7 @@ fn dir_arg<'a>(alloc: Global) -> Arg<'a>
         .help("The directory")
 }
 
-// The flag that leaves out what can't be loaded.
+/// Returns the flag that leaves out what can't be loaded.
 fn skip_arg<'a>(alloc: Global) -> Arg<'a>
     ensures rule { rule_of result ≡ skip_rule }
     ensures local { result.global ≡ false }
@@ -431,7 +439,7 @@ fn skip_arg<'a>(alloc: Global) -> Arg<'a>
         .help("Leave out what can't be loaded, list it, and end with status 3")
 }
 
-// The flag that only lists what can't be loaded.
+/// Returns the flag that only lists what can't be loaded.
 fn check_arg<'a>(alloc: Global) -> Arg<'a>
     ensures rule { rule_of result ≡ check_rule }
     ensures local { result.global ≡ false }
@@ -442,7 +450,7 @@ fn check_arg<'a>(alloc: Global) -> Arg<'a>
         .help("Write no script, but list what can't be loaded")
 }
 
-// The flag that keeps the bits S_ISUID and S_ISGID.
+/// Returns the flag that keeps the bits S_ISUID and S_ISGID.
 fn set_id_arg<'a>(alloc: Global) -> Arg<'a>
     ensures rule { rule_of result ≡ set_id_rule }
     ensures local { result.global ≡ false }
@@ -453,7 +461,7 @@ fn set_id_arg<'a>(alloc: Global) -> Arg<'a>
         .help("Keep the set-user-ID and set-group-ID bits of modes")
 }
 
-// The flag that sets no owner and no group.
+/// Returns the flag that sets no owner and no group.
 fn no_owners_arg<'a>(alloc: Global) -> Arg<'a>
     ensures rule { rule_of result ≡ no_owners_rule }
     ensures local { result.global ≡ false }
@@ -464,7 +472,7 @@ fn no_owners_arg<'a>(alloc: Global) -> Arg<'a>
         .help("Do not set owners and groups, even as the superuser")
 }
 
-// The flag that ends a run at the first line that does not do what it requests.
+/// Returns the flag that ends a run at the first line that does not do what it requests.
 fn strict_arg<'a>(alloc: Global) -> Arg<'a>
     ensures rule { rule_of result ≡ strict_rule }
     ensures local { result.global ≡ false }
@@ -475,7 +483,7 @@ fn strict_arg<'a>(alloc: Global) -> Arg<'a>
         .help("End with status 3 at the first line that is invalid, refused, fails or waits")
 }
 
-// The script that is played first.
+/// Returns the flag of the script that is played first.
 fn after_arg<'a>(alloc: Global) -> Arg<'a>
     ensures rule { rule_of result ≡ after_rule }
     ensures local { result.global ≡ false }
@@ -486,7 +494,7 @@ fn after_arg<'a>(alloc: Global) -> Arg<'a>
         .help("Play this script first, without printing its replies")
 }
 
-// The plan of it.
+/// Returns the argument of the plan.
 fn file_arg<'a>(alloc: Global) -> Arg<'a>
     ensures rule { rule_of result ≡ file_rule }
     ensures local { result.global ≡ false }
@@ -497,7 +505,7 @@ fn file_arg<'a>(alloc: Global) -> Arg<'a>
         .help("The plan")
 }
 
-// How often a call asks at most.
+/// Returns the flag of how often a call asks at most.
 fn turns_arg<'a>(alloc: Global) -> Arg<'a>
     ensures rule { rule_of result ≡ turns_rule }
     ensures local { result.global ≡ false }
@@ -510,7 +518,7 @@ fn turns_arg<'a>(alloc: Global) -> Arg<'a>
         .help("Maximum number of attempts per blocked call")
 }
 
-// How many threads run jobs at most.
+/// Returns the flag of how many threads run jobs at most.
 fn threads_arg<'a>(alloc: Global) -> Arg<'a>
     ensures rule { rule_of result ≡ threads_rule }
     ensures local { result.global ≡ false }
@@ -523,7 +531,7 @@ fn threads_arg<'a>(alloc: Global) -> Arg<'a>
         .help("Maximum number of threads that run jobs")
 }
 
-// The flag that leaves out how far it has come.
+/// Returns the flag that leaves out the progress.
 fn quiet_arg<'a>(alloc: Global) -> Arg<'a>
     ensures rule { rule_of result ≡ quiet_rule }
     ensures local { result.global ≡ false }
@@ -534,7 +542,7 @@ fn quiet_arg<'a>(alloc: Global) -> Arg<'a>
         .help("Do not show progress")
 }
 
-// The flag that requests Moss's rule for holders.
+/// Returns the flag that requests Moss's rule for holders.
 fn moss_arg<'a>(alloc: Global) -> Arg<'a>
     ensures rule { rule_of result ≡ moss_rule }
     ensures local { result.global ≡ false }
@@ -545,7 +553,7 @@ fn moss_arg<'a>(alloc: Global) -> Arg<'a>
         .help("Also block calls on locks that an ancestor holds (Moss's stricter rule)")
 }
 
-// The choice if the words could not be read.
+/// Returns the choice if the words could not be read.
 fn choice_at(alloc: Global, error: &Error) -> Choice
     ensures { ErrorChoice (kind_of error.now) result }
 {

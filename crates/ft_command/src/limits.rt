@@ -99,10 +99,12 @@ pub(crate) fn asked_limits(found: &ArgMatches) -> Result<AskedLimits, Flag>
     })
 }
 
-// The limit that a flag requests, if it is given; or the flag, if its value is no limit.
+/// Returns the limit that a flag requests, if the flag is given. Fails with the flag if its value
+/// is no limit.
 fn asked_limit(found: &ArgMatches, flag: Flag) -> Result<Option<u64>, Flag>
     ensures ok { IfOk result (IsAsked flag (rows_of (found_of found.now))) }
-    ensures err { IfErr result (λ bad. (bad ≡ flag) × IsBadLimit flag (rows_of (found_of found.now))) }
+    ensures err { IfErr result
+        (λ bad. (bad ≡ flag) × IsBadLimit flag (rows_of (found_of found.now))) }
 {
     match found.get_str(flag.name()) {
         None => Ok(None),
@@ -118,7 +120,8 @@ pub(crate) fn with_limits<'a>(
     alloc: Global,
     command: Command<'a>,
 ) -> Result<Command<'a>, AllocError>
-    ensures app { IfOk result (λ limited_command. app_of limited_command ≡ limited (app_of command.entry)) }
+    ensures app { IfOk result
+        (λ limited_command. app_of limited_command ≡ limited (app_of command.entry)) }
     ensures local { HasNoGlobals command.entry → IfOk result HasNoGlobals }
 {
     command
@@ -144,7 +147,7 @@ pub(crate) fn with_limits<'a>(
         ))
 }
 
-// The argument of a flag.
+/// Returns the argument of a flag.
 fn limit_arg<'a>(alloc: Global, flag: Flag, help: &'a str) -> Arg<'a>
     ensures rule { rule_of result ≡ limit_rule flag }
     ensures local { result.global ≡ false }

@@ -1,30 +1,30 @@
 -- A walk, visit by visit.
 use Rattle.std.proofs.Common.{◌≡◌, ℕ, List, [], ◌∷◌, ◌++◌, length, arith, refl, sym, ap, ◌∙◌, subst, append_assoc}
-use Rattle.ft_copy.specs.declared.found.Listed.{Listed}
+use Rattle.ft_copy.specs.declared.found.FolderEntry.{FolderEntry}
 use Rattle.ft_copy.specs.declared.found.MetLink.{MetLink}
-use Rattle.ft_copy.specs.declared.found.Place.{Place}
+use Rattle.ft_copy.specs.declared.found.CopyPath.{CopyPath}
 use Rattle.ft_copy.specs.declared.limits.CopyLimits.{CopyLimits}
 use Rattle.ft_copy.specs.Told.{Told}
 use Rattle.ft_copy.specs.Walks.{Standing, above, child}
 use Rattle.ft_copy.specs.Runs.{Visit, IsLinkVisit, IsVisit, LinksTo, WalksTo}
 
 -- the last name of a directory is the lowest on top
-pub above_last : (path : List ℕ) (names : List Listed) (listed : Listed) → above path (names ++ listed ∷ []) ≡ child path listed ∷ above path names
+pub above_last : (path : List ℕ) (names : List FolderEntry) (listed : FolderEntry) → above path (names ++ listed ∷ []) ≡ child path listed ∷ above path names
 above_last path [] listed = refl
 above_last path (n ∷ ns) listed = ap (λ l. l ++ child path n ∷ []) (above_last path ns listed)
 
 -- it is put there
-pub put_last : (left : List Place) (path : List ℕ) (names rest : List Listed) (listed : Listed) → names ≡ rest ++ listed ∷ []
+pub put_last : (left : List CopyPath) (path : List ℕ) (names rest : List FolderEntry) (listed : FolderEntry) → names ≡ rest ++ listed ∷ []
     → left ++ above path names ≡ (left ++ child path listed ∷ []) ++ above path rest
 put_last left path names rest listed is =
     ap (λ l. left ++ above path l) is ∙ ap (λ l. left ++ l) (above_last path rest listed) ∙ sym (append_assoc left (child path listed ∷ []) (above path rest))
 
-pub none_left : (n : ℕ) (all : List Place) → n ≡ length all → n ≡ 0 → all ≡ []
+pub none_left : (n : ℕ) (all : List CopyPath) → n ≡ length all → n ≡ 0 → all ≡ []
 none_left n [] sized empty = refl
 none_left n (p ∷ ps) sized empty = absurd (omega (arith, sized, empty))
 
 module _ (limits : CopyLimits) (tells : Told → Type 0) where
-  pub walks_one : (old new : Standing) (rest : List Place) (place : Place) (visit : Visit) → old.left ≡ rest ++ place ∷ []
+  pub walks_one : (old new : Standing) (rest : List CopyPath) (place : CopyPath) (visit : Visit) → old.left ≡ rest ++ place ∷ []
       → IsVisit limits tells place (record { left = rest; links = old.links; firsts = old.firsts }) visit new → WalksTo limits tells old (visit ∷ []) new
   walks_one old new rest place visit is h = (rest, place, new, is, h, refl)
 

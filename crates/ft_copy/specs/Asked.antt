@@ -1,13 +1,13 @@
--- What a target is asked for, one thing after another.
+-- The requests to a target, one after another.
 use Rattle.std.specs.Prelude.{◌≡◌, ℕ, Bool, true, false, List, [], ◌∷◌, Option}
 use Rattle.std.specs.List.{list_any}
 use Rattle.ft_cells.specs.declared.attributes.Attributes.{Attributes}
 use Rattle.ft_cells.specs.declared.attributes.Timestamp.{Timestamp}
 
--- One thing that a target is asked for: to start; for a directory with attributes; for a file with
--- attributes that is open; for bytes behind those of the open file; to close it, with the time of
--- its bytes, if there is one; for a further name of a file or of a symbolic link; for a symbolic
--- link that leads somewhere; to finish, with attributes of the root; to give up.
+-- One request to a target: to start; to make a directory with attributes; to make a file with
+-- attributes, which is open; to append bytes to the open file; to close it, with the time of its
+-- bytes, if there is one; to give a further name to a file or a symbolic link; to make a symbolic
+-- link with a target; to finish, with attributes of the root; to give up.
 pub data Asked : Type 0 where
   Start : Asked
   Folder : (path : List ℕ) → (attributes : Attributes) → Asked
@@ -19,7 +19,7 @@ pub data Asked : Type 0 where
   Finish : (attributes : Attributes) → Asked
   GiveUp : Asked
 
--- whether it is asked to finish
+-- the request is to finish
 abbrev pub is_finish : Asked → Bool
 is_finish Start = false
 is_finish (Folder path attributes) = false

@@ -1,4 +1,4 @@
--- What a copy keeps of a mode.
+-- The part of a mode that a copy keeps.
 use Rattle.std.specs.Prelude.{◌%◌, ℕ, if◌then◌else◌}
 use Rattle.ft_cells.specs.declared.attributes.Attributes.{Attributes}
 use Rattle.ft_copy.specs.declared.found.Given.{Given}
@@ -8,7 +8,7 @@ use Rattle.ft_copy.specs.declared.limits.CopyLimits.{CopyLimits}
 abbrev pub without_set_id : ℕ → ℕ
 without_set_id mode = mode % 1024
 
--- the attributes of a copy: a mode has those two bits only where they may be copied
+-- the attributes of a copy: a mode has those two bits only if they may be copied
 abbrev pub kept_attributes : CopyLimits → Attributes → Attributes
 kept_attributes limits a = if limits.set_id then a else record a { mode = without_set_id a.mode }
 

@@ -1,3 +1,4 @@
+-- What callers cite.
 pub mod Told
 pub mod Kept
 pub mod Asked

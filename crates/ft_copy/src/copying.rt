@@ -7,39 +7,47 @@ ghost use Rattle.ft_copy.specs.declared.found.Found.TheVariants.{File, Folder};
 ghost use Rattle.ft_copy.specs.declared.found.TheConstants.{ROOT};
 ghost use Rattle.ft_copy.specs.Walks.{is_dotted, standing};
 
+use crate::copy_fault::{CopyFault, CopyStop};
 use crate::file::copy_file;
 use crate::firsts::Firsts;
-use crate::found::{Found, FoundFile, FoundFolder, Place, ROOT};
+use crate::found::{CopyPath, Found, FoundFile, FoundFolder, ROOT};
 use crate::limits::CopyLimits;
 use crate::linking::make_links;
 use crate::source::Source;
 use crate::target::Target;
-use crate::trouble::{Stopped, Trouble};
 use crate::walk::{Walk, enter, put_off};
 use ft_base::Sequence;
 use ft_path::LONGEST_PATH;
 use std::alloc::Global;
 use std::collections::VecDeque;
 
-/// Copies what a source tells of to a target: each directory before what stands in it, the names of
-/// a directory in the order of their bytes, a file by its bytes where it is met first and as a link
-/// where it is met again. What is listed or read is what was found there, or else the copy stops.
-/// Symbolic links are not followed, and come behind all else, so that the
-/// target is asked for nothing that stands behind one. What a tree has no place for is refused,
-/// unless the source leaves it out, and so is a file that has more bytes or more names than these
-/// limits allow. Directories and files have their attributes, without S_ISUID and S_ISGID where the
-/// limits say so, and files the time of their bytes.
+/// Copies the tree that a source describes to a target.
 ///
-/// Where something fails, the target is asked to give up, and for nothing more.
+/// A directory is copied before its contents, and the names of a directory in the order of their
+/// bytes. A file is copied by its bytes when it is met first, and as a link when it is met again.
+/// The copy stops if what is listed or read is not what was found there.
+///
+/// Symbolic links are not followed. They are made after all else, so the target is never asked for
+/// anything whose path leads through one.
+///
+/// A device, a FIFO or a socket is refused, unless the source leaves it out. A file with more bytes
+/// or more names than these limits allow is refused too.
+///
+/// Directories and files keep their attributes, without S_ISUID and S_ISGID if the limits exclude
+/// these. Files keep the time of their bytes.
+///
+/// If something fails, the target is asked to give up, and for nothing more.
 pub fn copy<S: Source, T: Target>(
     alloc: Global,
     limits: CopyLimits,
     source: &S,
     target: &mut T,
-) -> Result<(), Stopped>
+) -> Result<(), CopyStop>
     ensures ok { OnOk result (Copies limits (S.tells source.now) T.does target.old target.new) }
     ensures err { OnErr result (GivesUp T.does T.fails target.old target.new) }
-    ensures stopped { IfErr result (λ stopped. StopsCopy limits (S.tells source.now) T.does T.fails stopped target.old target.new) }
+    ensures stopped { IfErr result
+        (λ stopped. StopsCopy limits (S.tells source.now) T.does T.fails stopped target.old
+        target.new) }
 {
     match copy_whole(alloc, limits, source, target) {
         Ok(()) => Ok(()),
@@ -50,15 +58,17 @@ pub fn copy<S: Source, T: Target>(
     }
 }
 
-// The same, but for giving up.
+/// Copies a tree as `copy` does, but does not ask the target to give up if something fails.
 fn copy_whole<S: Source, T: Target>(
     alloc: Global,
     limits: CopyLimits,
     source: &S,
     target: &mut T,
-) -> Result<(), Stopped>
+) -> Result<(), CopyStop>
     ensures ok { OnOk result (Copies limits (S.tells source.now) T.does target.old target.new) }
-    ensures err { IfErr result (λ stopped. Stops limits (S.tells source.now) T.does T.fails stopped target.old target.new) }
+    ensures err { IfErr result
+        (λ stopped. Stops limits (S.tells source.now) T.does T.fails stopped target.old
+        target.new) }
 {
     let mut walk = Walk {
         alloc,
@@ -78,25 +88,28 @@ fn copy_whole<S: Source, T: Target>(
     }
 }
 
-// What stopped a copy at the root.
-fn at_root(alloc: Global, trouble: Trouble) -> Stopped
+/// Returns the stop of a copy at the root.
+fn at_root(alloc: Global, trouble: CopyFault) -> CopyStop
     ensures trouble { result.trouble ≡ trouble }
     ensures path { result.path ≡ [] }
 {
-    Stopped {
+    CopyStop {
         trouble,
         path: Sequence::new(alloc),
     }
 }
 
-// Starts the target, enters the root, and answers it.
+/// Starts the target, enters the root, and returns it.
 fn begin<S: Source, T: Target>(
     source: &S,
     target: &mut T,
     walk: &mut Walk,
-) -> Result<FoundFolder, Trouble>
-    ensures ok { IfOk result (λ top. Begins (S.tells source.now) T.does top (standing walk.old) (standing walk.new) target.old target.new) }
-    ensures err { IfErr result (λ trouble. StopsBegin (S.tells source.now) T.does T.fails trouble target.old target.new) }
+) -> Result<FoundFolder, CopyFault>
+    ensures ok { IfOk result
+        (λ top. Begins (S.tells source.now) T.does top (standing walk.old) (standing walk.new)
+        target.old target.new) }
+    ensures err { IfErr result
+        (λ trouble. StopsBegin (S.tells source.now) T.does T.fails trouble target.old target.new) }
 {
     let top = root_of(source)?;
     target.start()?;
@@ -104,26 +117,31 @@ fn begin<S: Source, T: Target>(
     Ok(top)
 }
 
-// The root. What is no directory is refused.
-fn root_of<S: Source>(source: &S) -> Result<FoundFolder, Trouble>
+/// Returns the root. If it is not a directory, it is refused.
+fn root_of<S: Source>(source: &S) -> Result<FoundFolder, CopyFault>
     ensures ok { IfOk result (λ top. S.tells source.now (Finds [] ROOT (Folder top))) }
     ensures err { IfErr result (λ trouble. IsCauseAtRoot (S.tells source.now) trouble) }
 {
     match source.look(b"".as_slice(), ROOT)? {
         Found::Folder(top) => Ok(top),
-        Found::File(_) | Found::Symlink(_) | Found::Special => Err(Trouble::BadTree),
+        Found::File(_) | Found::Symlink(_) | Found::Special => Err(CopyFault::BadTree),
     }
 }
 
-// Visits all that is left.
+/// Visits all places that are left, and those that are met on the way. Fails with `Full` after 2^64
+/// - 1 visits.
 fn visit_all<S: Source, T: Target>(
     limits: CopyLimits,
     source: &S,
     target: &mut T,
     walk: &mut Walk,
-) -> Result<(), Stopped>
-    ensures ok { OnOk result (VisitsAll limits (S.tells source.now) T.does (standing walk.old) (standing walk.new) target.old target.new) }
-    ensures err { IfErr result (λ stopped. StopsVisiting limits (S.tells source.now) T.does T.fails stopped (standing walk.old) target.old target.new) }
+) -> Result<(), CopyStop>
+    ensures ok { OnOk result
+        (VisitsAll limits (S.tells source.now) T.does (standing walk.old) (standing walk.new)
+        target.old target.new) }
+    ensures err { IfErr result
+        (λ stopped. StopsVisiting limits (S.tells source.now) T.does T.fails stopped
+        (standing walk.old) target.old target.new) }
 {
     let mut turns = u64::MAX;
     while turns > 0 {
@@ -134,33 +152,37 @@ fn visit_all<S: Source, T: Target>(
         match visit(limits, source, target, walk, &place) {
             Ok(()) => {}
             Err(trouble) => {
-                return Err(Stopped {
+                return Err(CopyStop {
                     trouble,
                     path: place.path,
                 });
             }
         }
     }
-    Err(at_root(walk.alloc, Trouble::Full))
+    Err(at_root(walk.alloc, CopyFault::Full))
 }
 
-// Visits one place.
+/// Visits one place.
 fn visit<S: Source, T: Target>(
     limits: CopyLimits,
     source: &S,
     target: &mut T,
     walk: &mut Walk,
-    place: &Place,
-) -> Result<(), Trouble>
-    ensures ok { OnOk result (Visits limits (S.tells source.now) T.does place.now (standing walk.old) (standing walk.new) target.old target.new) }
-    ensures err { IfErr result (λ trouble. StopsVisit limits (S.tells source.now) T.does T.fails trouble place.now (standing walk.old) target.old target.new) }
+    place: &CopyPath,
+) -> Result<(), CopyFault>
+    ensures ok { OnOk result
+        (Visits limits (S.tells source.now) T.does place.now (standing walk.old) (standing walk.new)
+        target.old target.new) }
+    ensures err { IfErr result
+        (λ trouble. StopsVisit limits (S.tells source.now) T.does T.fails trouble place.now
+        (standing walk.old) target.old target.new) }
 {
     let path = place.path.as_slice();
     if is_dotted(path) {
-        return Err(Trouble::BadName);
+        return Err(CopyFault::BadName);
     }
     if path.len() > LONGEST_PATH {
-        return Err(Trouble::PathTooLong);
+        return Err(CopyFault::PathTooLong);
     }
     match source.look(path, place.node)? {
         Found::Folder(folder) => {
@@ -173,31 +195,34 @@ fn visit<S: Source, T: Target>(
             if source.omits(path)? {
                 Ok(())
             } else {
-                Err(Trouble::Special)
+                Err(CopyFault::Special)
             }
         }
     }
 }
 
-// Visits a file.
+/// Visits a file: copies it when it is met first, and gives it a further name when it is met again.
 fn visit_file<S: Source, T: Target>(
     limits: CopyLimits,
     source: &S,
     target: &mut T,
     walk: &mut Walk,
-    place: &Place,
+    place: &CopyPath,
     file: &FoundFile,
-) -> Result<(), Trouble>
-    ensures ok { OnOk result (VisitsFile limits (S.tells source.now) T.does place.now file.now (standing walk.old) (standing walk.new) target.old target.new) }
+) -> Result<(), CopyFault>
+    ensures ok { OnOk result
+        (VisitsFile limits (S.tells source.now) T.does place.now file.now (standing walk.old)
+        (standing walk.new) target.old target.new) }
     ensures err { S.tells source.now (Finds place.now.path place.now.node (File file.now))
-        → IfErr result (λ trouble. StopsVisit limits (S.tells source.now) T.does T.fails trouble place.now (standing walk.old) target.old target.new) }
+        → IfErr result (λ trouble. StopsVisit limits (S.tells source.now) T.does T.fails trouble
+        place.now (standing walk.old) target.old target.new) }
 {
     let facts = file.facts;
     if facts.links > limits.links {
-        return Err(Trouble::TooManyLinks);
+        return Err(CopyFault::TooManyLinks);
     }
     if facts.size > limits.file_size {
-        return Err(Trouble::TooLarge);
+        return Err(CopyFault::TooLarge);
     }
     if facts.links <= 1 {
         return copy_file(walk.alloc, limits, source, target, place, file);
@@ -212,7 +237,7 @@ fn visit_file<S: Source, T: Target>(
     }
 }
 
-// Whether the last name of a path is `.` or `..`, which lead elsewhere.
+/// Returns whether the last name of a path is `.` or `..`, which lead elsewhere.
 fn is_dotted(path: &[u8]) -> bool
     ensures { result ≡ is_dotted path.now }
 {

@@ -1,4 +1,4 @@
-// A file, copied piece by piece.
+// The copy of a file, piece by piece.
 ghost use Rattle.std.specs.Prelude.{◌≡◌, ◌⊎◌, ◌≤◌, take, vec_len, length, OnOk, IfErr, IfOk};
 ghost use Rattle.std.specs.Io.{ReadsAtMost};
 ghost use Rattle.std.specs.Io.KnownBytes.{Consumes, IsAtEnd};
@@ -10,50 +10,56 @@ ghost use Rattle.ft_copy.specs.Stops.{StopsPouring, StopsVisit};
 ghost use Rattle.ft_copy.specs.Told.{Finds};
 ghost use Rattle.ft_copy.specs.Walks.{Standing};
 
-use crate::found::{FoundFile, Place};
+use crate::copy_fault::CopyFault;
+use crate::found::{CopyPath, FoundFile};
 use crate::limits::CopyLimits;
 use crate::source::Source;
 use crate::target::Target;
-use crate::trouble::Trouble;
 use std::alloc::{AllocError, Global};
 use std::io::{ErrorKind, Read};
 
 /// The most bytes of a piece in which a file is copied.
 pub const PIECE: usize = 65_536;
 
-/// Copies this file. One that turns out to have more bytes than the limits allow is refused.
+/// Copies this file. It is refused if it turns out to have more bytes than the limits allow.
 pub(crate) fn copy_file<S: Source, T: Target>(
     alloc: Global,
     limits: CopyLimits,
     source: &S,
     target: &mut T,
-    place: &Place,
+    place: &CopyPath,
     file: &FoundFile,
-) -> Result<(), Trouble>
-    ensures ok { OnOk result (CopiesFile limits (S.tells source.now) T.does place.now file.now.facts.id (kept_given limits file.now.given) target.old target.new) }
-    ensures err { (walk : Standing) → S.tells source.now (Finds place.now.path place.now.node (File file.now))
-        → IfErr result (λ trouble. StopsVisit limits (S.tells source.now) T.does T.fails trouble place.now walk target.old target.new) }
+) -> Result<(), CopyFault>
+    ensures ok { OnOk result
+        (CopiesFile limits (S.tells source.now) T.does place.now file.now.facts.id
+        (kept_given limits file.now.given) target.old target.new) }
+    ensures err { (walk : Standing)
+        → S.tells source.now (Finds place.now.path place.now.node (File file.now))
+        → IfErr result (λ trouble. StopsVisit limits (S.tells source.now) T.does T.fails trouble
+        place.now walk target.old target.new) }
 {
     let path = place.path.as_slice();
     let given = limits.kept_given(file.given);
     let mut opened = source.open(path, place.node)?;
     if !opened.id.is(file.facts.id) {
-        return Err(Trouble::Read);
+        return Err(CopyFault::Read);
     }
     target.open(path, given.attributes)?;
     pour(alloc, limits.file_size, &mut opened.file, target)?;
     target.close(given.time)
 }
 
-// Puts all that a reader has left into the open file, so many bytes at most.
+/// Appends all that a reader has left to the open file. More than `most` bytes are refused.
 fn pour<R: Read, T: Target>(
     alloc: Global,
     most: u64,
     file: &mut R,
     target: &mut T,
-) -> Result<(), Trouble>
+) -> Result<(), CopyFault>
     ensures ok { OnOk result (Pours T.does most (R.remaining file.old) target.old target.new) }
-    ensures err { IfErr result (λ trouble. StopsPouring T.does T.fails most trouble (R.remaining file.old) target.old target.new) }
+    ensures err { IfErr result
+        (λ trouble. StopsPouring T.does T.fails most trouble (R.remaining file.old) target.old
+        target.new) }
 {
     let mut room = room_for_piece(alloc)?;
     let piece = room.as_mut_slice();
@@ -64,30 +70,32 @@ fn pour<R: Read, T: Target>(
             return Ok(());
         }
         if count > left {
-            return Err(Trouble::TooLarge);
+            return Err(CopyFault::TooLarge);
         }
         left -= count;
         target.piece(&piece[..count])?;
     }
 }
 
-// Room for the bytes of one read.
+/// Returns room for the bytes of one read.
 fn room_for_piece(alloc: Global) -> Result<Vec<u8>, AllocError>
     ensures { IfOk result (λ room. vec_len room ≡ PIECE) }
 {
     vec![in alloc; 0; PIECE]
 }
 
-// One read. Want of memory is told apart from other faults.
-fn read_piece<R: Read>(file: &mut R, piece: &mut [u8]) -> Result<usize, Trouble>
+/// Reads once, and returns the number of bytes. Out of memory is a fault of its own.
+fn read_piece<R: Read>(file: &mut R, piece: &mut [u8]) -> Result<usize, CopyFault>
     ensures bound { ReadsAtMost result piece.new }
-    ensures bytes { IfOk result (λ n. Consumes (R.remaining file.old) (R.remaining file.new) (take n piece.new)) }
-    ensures cause { IfErr result (λ trouble. (trouble ≡ Trouble.Memory) ⊎ (trouble ≡ Trouble.Read)) }
+    ensures bytes { IfOk result
+        (λ n. Consumes (R.remaining file.old) (R.remaining file.new) (take n piece.new)) }
+    ensures cause { IfErr result
+        (λ trouble. (trouble ≡ CopyFault.Memory) ⊎ (trouble ≡ CopyFault.Read)) }
     ensures end { IfOk result (λ n. n ≡ 0 → 1 ≤ length piece.old → IsAtEnd (R.remaining file.new)) }
 {
     match file.read(piece) {
         Ok(count) => Ok(count),
-        Err(error) if error.kind() == ErrorKind::OutOfMemory => Err(Trouble::Memory),
-        Err(_) => Err(Trouble::Read),
+        Err(error) if error.kind() == ErrorKind::OutOfMemory => Err(CopyFault::Memory),
+        Err(_) => Err(CopyFault::Read),
     }
 }

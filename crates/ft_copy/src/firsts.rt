@@ -1,4 +1,4 @@
-// The files and symbolic links with more than one name that were copied already.
+// The files and symbolic links with more than one name that were already copied.
 ghost use Rattle.std.specs.Prelude.{◌≡◌, None, OnOk};
 ghost use Rattle.std.specs.Option.{option_copied};
 ghost use Rattle.ft_copy.specs.Walks.{firsts_of, with_first};
@@ -15,7 +15,7 @@ pub(crate) struct Firsts {
 }
 
 impl Firsts {
-    /// There is none. Takes no memory.
+    /// Returns an empty map. Takes no memory.
     pub(crate) fn new(alloc: Global) -> Firsts
         ensures { firsts_of result ≡ (λ _. None) }
     {
@@ -24,7 +24,7 @@ impl Firsts {
         }
     }
 
-    /// The path of a file.
+    /// Returns the path of a file, if there is one.
     pub(crate) fn get(&self, id: FileId) -> Option<&Sequence<u8>>
         ensures { option_copied result ≡ firsts_of self.now id }
     {

@@ -1,4 +1,4 @@
-// What a source finds.
+// The reports of a source.
 ghost use Rattle.std.specs.Prelude.{◌≡◌};
 ghost use Rattle.ft_copy.specs.Told.{same_file};
 
@@ -9,8 +9,7 @@ use ft_path::Name;
 /// The number by which a source knows its root.
 pub const ROOT: u64 = 1;
 
-/// What tells a file, a directory or a symbolic link from all others: the device that it stands on,
-/// and its number there.
+/// The identity of a file, a directory or a symbolic link: its device, and its number there.
 #[derive(Clone, Copy, Debug, PartialEq, Eq, Hash)]
 pub struct FileId {
     pub device: u64,
@@ -18,7 +17,7 @@ pub struct FileId {
 }
 
 impl FileId {
-    /// Whether they are of one file.
+    /// Returns whether both are the identity of one file.
     pub(crate) fn is(self, other: FileId) -> bool
         ensures { result ≡ same_file self other }
     {
@@ -26,39 +25,39 @@ impl FileId {
     }
 }
 
-/// What is known of a file, or of a symbolic link, before it is read.
+/// The facts about a file or a symbolic link that are known before it is read.
 #[derive(Clone, Copy, Debug, PartialEq, Eq)]
 pub struct FileFacts {
     pub id: FileId,
-    /// How many names it has at most, also where some of them stand elsewhere.
+    /// The greatest number of names that it can have, including names elsewhere.
     pub links: u64,
-    /// How many bytes it has: for a symbolic link, those of where it leads.
+    /// The number of its bytes; for a symbolic link, of its target.
     pub size: u64,
 }
 
-/// What a file has beside its bytes and its names.
+/// What a file has besides its bytes and its names.
 #[derive(Clone, Copy, Debug, PartialEq, Eq)]
 pub struct Given {
     pub attributes: Attributes,
-    /// The time of its bytes, where there is one.
+    /// The time of its bytes, if there is one.
     pub time: Option<Timestamp>,
 }
 
-/// A file that is found.
+/// A file that was found.
 #[derive(Clone, Copy, Debug, PartialEq, Eq)]
 pub struct FoundFile {
     pub facts: FileFacts,
     pub given: Given,
 }
 
-/// A directory that is found.
+/// A directory that was found.
 #[derive(Clone, Copy, Debug, PartialEq, Eq)]
 pub struct FoundFolder {
     pub id: FileId,
     pub attributes: Attributes,
 }
 
-/// What stands at a place.
+/// What was found at a place.
 #[derive(Clone, Copy, Debug, PartialEq, Eq)]
 pub enum Found {
     /// A directory.
@@ -67,50 +66,50 @@ pub enum Found {
     File(FoundFile),
     /// A symbolic link, which is not followed.
     Symlink(FileFacts),
-    /// What a tree has no place for: a device, a FIFO or a socket.
+    /// Something that a tree cannot have: a device, a FIFO or a socket.
     Special,
 }
 
-/// The names in a directory, and which directory was read for them.
+/// The names in a directory, and the identity of the directory that was read for them.
 #[derive(Debug, PartialEq, Eq, Drop)]
 pub struct Listing {
     pub id: FileId,
-    pub names: Vec<Listed>,
+    pub names: Vec<FolderEntry>,
 }
 
-/// A file that was opened, and which one that is.
+/// A file that was opened, and its identity.
 #[derive(Drop)]
 pub struct Opened<F> {
     pub id: FileId,
     pub file: F,
 }
 
-/// Where a symbolic link leads, and which one was read for it.
+/// The target of a symbolic link, and the identity of the link that was read for it.
 #[derive(Debug, PartialEq, Eq, Drop)]
 pub struct Leading {
     pub id: FileId,
     pub to: Sequence<u8>,
 }
 
-/// A name in a directory, and the number by which the source knows what it leads to. A source that
-/// knows things by their paths alone may give any number.
+/// A name in a directory, and the number by which the source knows what the name leads to. A source
+/// that knows things only by their paths may give any number.
 #[derive(Debug, PartialEq, Eq, PartialOrd, Ord, Drop)]
-pub struct Listed {
+pub struct FolderEntry {
     pub name: Name,
     pub node: u64,
 }
 
-/// Where something stands: the path from the root, as `/a/b`, and the number by which the source
-/// knows it.
+/// A place: the path from the root, as `/a/b`, and the number by which the source knows what is
+/// there.
 #[derive(Debug, PartialEq, Eq, Drop)]
-pub struct Place {
+pub struct CopyPath {
     pub path: Sequence<u8>,
     pub node: u64,
 }
 
-/// A symbolic link that was met, and is made when all else is.
+/// A symbolic link that was met, and is made after all else.
 #[derive(Debug, PartialEq, Eq, Drop)]
 pub struct MetLink {
-    pub place: Place,
+    pub place: CopyPath,
     pub facts: FileFacts,
 }

@@ -1,7 +1,8 @@
-//! A tree of directories, copied: what is asked of a source that tells of one, and of a target that
-//! makes one, and the walk from the one to the other.
+//! The copy of a tree of directories: the requests to a source that describes one and to a target
+//! that makes one, and the walk from the source to the target.
 #![tactic(auto)]
 
+mod copy_fault;
 mod copying;
 mod file;
 mod firsts;
@@ -11,17 +12,16 @@ mod linking;
 mod name;
 mod source;
 mod target;
-mod trouble;
 mod walk;
 
+pub use copy_fault::{CopyFault, CopyStop};
 pub use copying::copy;
 pub use file::PIECE;
 pub use found::{
-    FileFacts, FileId, Found, FoundFile, FoundFolder, Given, Leading, Listed, Listing, MetLink,
-    Opened, Place, ROOT,
+    CopyPath, FileFacts, FileId, FolderEntry, Found, FoundFile, FoundFolder, Given, Leading,
+    Listing, MetLink, Opened, ROOT,
 };
 pub use limits::CopyLimits;
 pub use name::name_of;
 pub use source::Source;
 pub use target::Target;
-pub use trouble::{Stopped, Trouble};

@@ -1,26 +1,26 @@
-// What may be copied.
+// The limits of a copy.
 ghost use Rattle.std.specs.Prelude.{◌≡◌};
 ghost use Rattle.ft_copy.specs.Kept.{kept_attributes, kept_given};
 
 use crate::found::Given;
 use ft_cells::Attributes;
 
-// The mode bit S_ISGID. S_ISUID is the only one above it.
+/// The mode bit S_ISGID. S_ISUID is the only bit above it.
 const SET_GROUP_ID: u16 = 0o2000;
 
-/// What may be copied of a tree.
+/// The limits of what may be copied of a tree.
 #[derive(Clone, Copy, Debug, PartialEq, Eq)]
 pub struct CopyLimits {
-    /// How many bytes a file may have.
+    /// The most bytes that a file may have.
     pub file_size: u64,
-    /// How many names a file or a symbolic link may have.
+    /// The most names that a file or a symbolic link may have.
     pub links: u64,
-    /// Whether a mode keeps its bits S_ISUID and S_ISGID. Else they are left out.
+    /// Whether a mode keeps its bits S_ISUID and S_ISGID. If not, they are left out.
     pub set_id: bool,
 }
 
 impl CopyLimits {
-    /// What a copy has of these attributes.
+    /// Returns these attributes as a copy has them.
     pub(crate) fn kept_attributes(self, attributes: Attributes) -> Attributes
         ensures { result ≡ kept_attributes self attributes }
     {
@@ -33,7 +33,7 @@ impl CopyLimits {
         }
     }
 
-    /// What the copy of a file is given, where it has this.
+    /// Returns what the copy of a file is given, if the file has this.
     pub(crate) fn kept_given(self, given: Given) -> Given
         ensures { result ≡ kept_given self given }
     {

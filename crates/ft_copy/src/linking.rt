@@ -1,14 +1,14 @@
-// The symbolic links of a tree, which are made when all else is.
+// The symbolic links of a tree, which are made after all else.
 ghost use Rattle.std.specs.Prelude.{OnOk, IfErr};
 ghost use Rattle.ft_copy.specs.Runs.{CopiesLink, MakesLink, MakesLinks};
 ghost use Rattle.ft_copy.specs.Stops.{FailsToCopyLink, StopsLink, StopsLinks};
 ghost use Rattle.ft_copy.specs.Walks.{standing};
 
+use crate::copy_fault::{CopyFault, CopyStop};
 use crate::found::MetLink;
 use crate::limits::CopyLimits;
 use crate::source::Source;
 use crate::target::Target;
-use crate::trouble::{Stopped, Trouble};
 use crate::walk::Walk;
 
 /// Makes the symbolic links that were met, one after another.
@@ -17,15 +17,18 @@ pub(crate) fn make_links<S: Source, T: Target>(
     source: &S,
     target: &mut T,
     walk: &mut Walk,
-) -> Result<(), Stopped>
-    ensures ok { OnOk result (MakesLinks limits (S.tells source.now) T.does (standing walk.old) target.old target.new) }
-    ensures err { IfErr result (λ stopped. StopsLinks limits (S.tells source.now) T.does T.fails stopped (standing walk.old) target.old target.new) }
+) -> Result<(), CopyStop>
+    ensures ok { OnOk result
+        (MakesLinks limits (S.tells source.now) T.does (standing walk.old) target.old target.new) }
+    ensures err { IfErr result
+        (λ stopped. StopsLinks limits (S.tells source.now) T.does T.fails stopped
+        (standing walk.old) target.old target.new) }
 {
     while let Some(link) = walk.links.pop_front() {
         match make_link(limits, source, target, walk, &link) {
             Ok(()) => {}
             Err(trouble) => {
-                return Err(Stopped {
+                return Err(CopyStop {
                     trouble,
                     path: link.place.path,
                 });
@@ -35,20 +38,24 @@ pub(crate) fn make_links<S: Source, T: Target>(
     Ok(())
 }
 
-// Makes a symbolic link where it is met first, and gives it a further name where it is met again.
+/// Makes a symbolic link when it is met first, and gives it a further name when it is met again.
 fn make_link<S: Source, T: Target>(
     limits: CopyLimits,
     source: &S,
     target: &mut T,
     walk: &mut Walk,
     link: &MetLink,
-) -> Result<(), Trouble>
-    ensures ok { OnOk result (MakesLink limits (S.tells source.now) T.does link.now (standing walk.old) (standing walk.new) target.old target.new) }
-    ensures err { IfErr result (λ trouble. StopsLink limits (S.tells source.now) T.does T.fails trouble link.now (standing walk.old) target.old target.new) }
+) -> Result<(), CopyFault>
+    ensures ok { OnOk result
+        (MakesLink limits (S.tells source.now) T.does link.now (standing walk.old)
+        (standing walk.new) target.old target.new) }
+    ensures err { IfErr result
+        (λ trouble. StopsLink limits (S.tells source.now) T.does T.fails trouble link.now
+        (standing walk.old) target.old target.new) }
 {
     let path = link.place.path.as_slice();
     if link.facts.links > limits.links {
-        return Err(Trouble::TooManyLinks);
+        return Err(CopyFault::TooManyLinks);
     }
     if link.facts.links <= 1 {
         return copy_link(source, target, link);
@@ -63,19 +70,23 @@ fn make_link<S: Source, T: Target>(
     }
 }
 
-// Copies where this symbolic link leads.
+/// Makes a symbolic link with the target that the source reports.
 fn copy_link<S: Source, T: Target>(
     source: &S,
     target: &mut T,
     link: &MetLink,
-) -> Result<(), Trouble>
-    ensures ok { OnOk result (CopiesLink (S.tells source.now) T.does link.now.place.path link.now.place.node link.now.facts.id target.old target.new) }
-    ensures err { IfErr result (λ trouble. FailsToCopyLink (S.tells source.now) T.fails trouble link.now.place.path link.now.place.node link.now.facts.id target.old target.new) }
+) -> Result<(), CopyFault>
+    ensures ok { OnOk result
+        (CopiesLink (S.tells source.now) T.does link.now.place.path link.now.place.node
+        link.now.facts.id target.old target.new) }
+    ensures err { IfErr result
+        (λ trouble. FailsToCopyLink (S.tells source.now) T.fails trouble link.now.place.path
+        link.now.place.node link.now.facts.id target.old target.new) }
 {
     let path = link.place.path.as_slice();
     let leading = source.read_link(path, link.place.node)?;
     if !leading.id.is(link.facts.id) {
-        return Err(Trouble::Read);
+        return Err(CopyFault::Read);
     }
     target.symlink(leading.to.as_slice(), path)
 }

@@ -6,7 +6,7 @@ use Rattle.std.specs.Ordering.{nat_cmp}
 use Rattle.std.specs.Cmp.{nat_cmp_total}
 use Rattle.std.specs.declared.cmp.Ordering.TheVariants.{Equal}
 use Rattle.std.specs.FinMap as finite
-use Rattle.ft_base.specs.Chains.{Lists, list_in}
+use Rattle.ft_base.specs.OwnedLists.{Lists, list_in}
 use Rattle.ft_laws.specs.Lists.{In}
 use Rattle.ft_laws.proofs.Tests.{by_test, by_option}
 use Rattle.ft_cells.specs.declared.cell.Cell.{Cell}
@@ -14,14 +14,14 @@ use Rattle.ft_cells.specs.Cells.{Cells}
 use Rattle.ft_tree.specs.Sweep.{IsAccounted}
 use Rattle.ft_posix.specs.Posix.{posix_calls}
 use Rattle.ft_posix.specs.RunLaws.{HasNamedPlaces, writes_cell}
-use Rattle.ft_undo.specs.declared.logs.Logged.{Logged}
+use Rattle.ft_undo.specs.declared.logs.LogRecord.{LogRecord}
 use Rattle.ft_undo.specs.Logs.{is_open, AreLists, AreOpen}
 use Rattle.ft_forest.specs.declared.state.State.{State as Life}
 use Rattle.ft_forest.specs.declared.state.State.TheVariants.{Live as LiveState, Committed as CommittedState, Aborted as AbortedState}
 use Rattle.ft_forest.specs.Transactions.{Transactions, parent_in, state_in, over_in, is_live as is_live_in, HasEnded, HasAborted, IsAborting}
-use Rattle.ft_moss.specs.Locks.{LockTable, has_lock, is_locked, is_let_go, is_opened, AreReleased}
-use Rattle.ft_moss.specs.Law.{AreDropped}
-use Rattle.ft_moss.specs.Rules.{is_strict}
+use Rattle.ft_lock_rules.specs.Locks.{LockTable, has_lock, is_locked, is_released, is_opened, AreReleased}
+use Rattle.ft_lock_rules.specs.Law.{AreDropped}
+use Rattle.ft_lock_rules.specs.Rules.{is_strict}
 use Rattle.ft_history.specs.Forest.{above}
 use Rattle.ft_history.specs.History.{Base as HistoryBase, Fate, fate, is_live, IsLive, parent, over, grants, standing, is_standing, newest_below}
 use Rattle.ft_history.specs.History.Fate.{Aborted}
@@ -52,12 +52,12 @@ use Rattle.ft_core.proofs.Owned.{write_line, has-lock}
 use Rattle.ft_core.proofs.Reverting.{placed-stays}
 use Rattle.ft_core.proofs.Gathered.{parts}
 
-module _ (W : CallLaws) (K : LockLaws) {base : Base} {h : History} {asks : Asks} {last_txn last_number : ℕ} {cells₀ : Cells} {forest₀ : Transactions} {table₀ : LockTable} {lists₀ : Lists Logged} {j₀ : Journaled} (core : IsCoreAt base h asks last_txn last_number cells₀ forest₀ table₀ lists₀ j₀) (t : ℕ) (live : IsLive posix_calls base.last_txn h t) where
+module _ (W : CallLaws) (K : LockLaws) {base : Base} {h : History} {asks : Asks} {last_txn last_number : ℕ} {cells₀ : Cells} {forest₀ : Transactions} {table₀ : LockTable} {lists₀ : Lists LogRecord} {j₀ : Journaled} (core : IsCoreAt base h asks last_txn last_number cells₀ forest₀ table₀ lists₀ j₀) (t : ℕ) (live : IsLive posix_calls base.last_txn h t) where
   abbrev from : HistoryBase posix_calls
   from = start W core.kept
 
   -- m calls are taken back, and the parts are now these
-  pub record IsOnWay (m : ℕ) (cells : Cells) (forest : Transactions) (table : LockTable) (lists : Lists Logged) (j : Journaled) : Type 0 where
+  pub record IsOnWay (m : ℕ) (cells : Cells) (forest : Transactions) (table : LockTable) (lists : Lists LogRecord) (j : Journaled) : Type 0 where
     pub log : ℕ → List Item
     pub taking : IsTaking W core.kept t m cells log
     pub logs : AreLogs cells log lists
@@ -76,7 +76,7 @@ module _ (W : CallLaws) (K : LockLaws) {base : Base} {h : History} {asks : Asks}
     pub journal : j ≡ record j₀ { asks = j.asks; subs = j.subs }
     -- whose turn has not come has its list
     pub waits : (x : ℕ) → state_in forest x ≡ Some LiveState → log x ≡ core.log x
-    pub accounted : IsAccounted (is_locked table) (is_let_go table) cells
+    pub accounted : IsAccounted (is_locked table) (is_released table) cells
 
   over-is : (forest : Transactions) → ((x : ℕ) → parent_in forest x ≡ parent posix_calls h x) → (x y : ℕ) → over_in forest x y ≡ over posix_calls h x y
   over-is forest parents x y = ap (λ (f : ℕ → Option ℕ). above f x y) (λ i z. parents z i)
@@ -118,7 +118,7 @@ module _ (W : CallLaws) (K : LockLaws) {base : Base} {h : History} {asks : Asks}
       no-ask None never = refl
       no-ask (Some x) never = absurd (never refl)
 
-  module _ {m : ℕ} {cells : Cells} {forest : Transactions} {table : LockTable} {lists : Lists Logged} {j : Journaled} (way : IsOnWay m cells forest table lists j) where
+  module _ {m : ℕ} {cells : Cells} {forest : Transactions} {table : LockTable} {lists : Lists LogRecord} {j : Journaled} (way : IsOnWay m cells forest table lists j) where
     parents : (x : ℕ) → parent_in forest x ≡ parent posix_calls h x
     parents x = way.forest_is.parents x ∙ core.transactions.parents x
 
@@ -176,7 +176,7 @@ module _ (W : CallLaws) (K : LockLaws) {base : Base} {h : History} {asks : Asks}
 
       -- and then the abort has gone on
       module _ (cells' : Cells) (made : cells' ≡ taken_back (list_in lists next) cells) (forest' : Transactions) (ended : HasEnded forest forest' next AbortedState) (forest_is' : IsAborting forest₀ forest' t)
-          (table' : LockTable) (released : AreReleased table table' next) (lists' : Lists Logged) (are : AreLists lists' (put (list_in lists) next [])) (open' : AreOpen lists' (put (is_open lists) next false)) (j' : Journaled) (told : j' ≡ without j next) where
+          (table' : LockTable) (released : AreReleased table table' next) (lists' : Lists LogRecord) (are : AreLists lists' (put (list_in lists) next [])) (open' : AreOpen lists' (put (is_open lists) next false)) (j' : Journaled) (told : j' ≡ without j next) where
         state-next : is_live_in (state_in forest' next) ≡ false
         state-next = ap is_live_in (ended.states next ∙ put_same (state_in forest) next (Some AbortedState) next refl)
 
@@ -220,7 +220,7 @@ module _ (W : CallLaws) (K : LockLaws) {base : Base} {h : History} {asks : Asks}
               (λ ne. removed-other j.asks next x ne ∙ way.asks_ended x (sym (ap is_live_in (state-other x ne)) ∙ e));
           journal = shape told way.journal;
           waits = λ x e. let was = still-state x e in one.others x was.0 ∙ way.waits x was.1;
-          accounted = subst (IsAccounted (is_locked table') (is_let_go table')) (sym made) (still-accounted table table' (taken_back (list_in lists next) cells) (K.known.released table table' next released) one.accounted);
+          accounted = subst (IsAccounted (is_locked table') (is_released table')) (sym made) (still-accounted table table' (taken_back (list_in lists next) cells) (K.known.released table table' next released) one.accounted);
         }
           where
             both : (a b : Bool) → a ≡ true → b ≡ false → (a && not b) ≡ true
@@ -336,17 +336,17 @@ module _ (W : CallLaws) (K : LockLaws) {base : Base} {h : History} {asks : Asks}
               (λ out. ap (λ b. b && not (is_live_in (state_in forest y))) out ∙ sym out)
 
 -- a list that was emptied is closed
-pub lists-closed : (lists middle new : Lists Logged) (n : ℕ) → AreLists middle (put (list_in lists) n []) → AreLists new (handed (list_in middle) n None) → AreLists new (put (list_in lists) n [])
+pub lists-closed : (lists middle new : Lists LogRecord) (n : ℕ) → AreLists middle (put (list_in lists) n []) → AreLists new (handed (list_in middle) n None) → AreLists new (put (list_in lists) n [])
 lists-closed lists middle new n a b x = b x ∙ by_number x n
     (λ is. put_same (list_in middle) n [] x is ∙ sym (put_same (list_in lists) n [] x is))
     (λ ne. put_other (list_in middle) n [] x ne ∙ a x)
 
-pub open-closed : (lists middle new : Lists Logged) (n : ℕ) → AreOpen middle (is_open lists) → AreOpen new (put (is_open middle) n false) → AreOpen new (put (is_open lists) n false)
+pub open-closed : (lists middle new : Lists LogRecord) (n : ℕ) → AreOpen middle (is_open lists) → AreOpen new (put (is_open middle) n false) → AreOpen new (put (is_open lists) n false)
 open-closed lists middle new n a b x = b x ∙ ap (cond (x == n) false) (a x)
 
 -- An abort of t in a core is on its way: m calls are taken back, and the core's parts are now
 -- these.
-abbrev pub IsAbortOf : Cells → Transactions → LockTable → Lists Logged → Journaled → ℕ → ℕ → Cells → Transactions → LockTable → Lists Logged → Journaled → Type 0
+abbrev pub IsAbortOf : Cells → Transactions → LockTable → Lists LogRecord → Journaled → ℕ → ℕ → Cells → Transactions → LockTable → Lists LogRecord → Journaled → Type 0
 IsAbortOf cells₀ forest₀ table₀ lists₀ j₀ t m cells forest table lists j =
     (W : CallLaws) (K : LockLaws) (core : IsCoreOf (state_of forest₀ j₀) (parts cells₀ forest₀ table₀ lists₀) j₀) (live : IsLive posix_calls forest₀.base (told_of j₀.events) t)
     → IsOnWay W K core t live m cells forest table lists j

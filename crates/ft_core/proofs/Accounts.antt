@@ -26,10 +26,10 @@ use Rattle.ft_posix.specs.Posix.{Stamped, as_place, does, names_file, posix, pos
 use Rattle.ft_posix.specs.RunLaws.{writes_cell}
 use Rattle.ft_posix.specs.Leaving.{accesses_cell, IsOfOpenFile}
 use Rattle.ft_posix.proofs.Leaving.{at_place-more, same-place, dead-file, all-noted}
-use Rattle.ft_moss.specs.declared.line.LockLine.{LockLine}
-use Rattle.ft_moss.specs.Locks.{LockTable, is_locked, is_let_go, is_accessed, AreGranted}
-use Rattle.ft_moss.specs.Knowing.{is_known}
-use Rattle.ft_moss.specs.Law.{AreLocksOf}
+use Rattle.ft_lock_rules.specs.declared.line.LockLine.{LockLine}
+use Rattle.ft_lock_rules.specs.Locks.{LockTable, is_locked, is_released, is_accessed, AreGranted}
+use Rattle.ft_lock_rules.specs.Knowing.{is_known}
+use Rattle.ft_lock_rules.specs.Law.{AreLocksOf}
 use Rattle.ft_history.proofs.Losing.{LosesOwn}
 use Rattle.ft_history.proofs.Words.{not_true}
 use Rattle.ft_core.specs.States.{State, history}
@@ -57,26 +57,26 @@ file_rest : (p q : Cell → Bool) (i : ℕ) → at_place (λ x. p x || q x) (Lin
 file_rest p q i = three_rest (p (Links i)) (p (Bytes i)) (p (FileAttributes i)) (q (Links i)) (q (Bytes i)) (q (FileAttributes i))
 
 -- what is known of a place, and locked at none of its cells, was let go
-let-go-rest : (t : LockTable) (c : Cell) → at_place (is_known t) c ≡ true → at_place (is_locked t) c ≡ false → at_place (is_let_go t) c ≡ true
-let-go-rest t (Entry entry) h f = one_rest (is_locked t (Entry entry)) (is_let_go t (Entry entry)) h f
-let-go-rest t (Names d) h f = dir_rest (is_locked t) (is_let_go t) d h f
-let-go-rest t (Parent d) h f = dir_rest (is_locked t) (is_let_go t) d h f
-let-go-rest t (Links i) h f = file_rest (is_locked t) (is_let_go t) i h f
-let-go-rest t (Bytes i) h f = file_rest (is_locked t) (is_let_go t) i h f
-let-go-rest t (Fd f) h g = one_rest (is_locked t (Fd f)) (is_let_go t (Fd f)) h g
-let-go-rest t (DirAttributes d) h f = dir_rest (is_locked t) (is_let_go t) d h f
-let-go-rest t (FileAttributes i) h f = file_rest (is_locked t) (is_let_go t) i h f
+let-go-rest : (t : LockTable) (c : Cell) → at_place (is_known t) c ≡ true → at_place (is_locked t) c ≡ false → at_place (is_released t) c ≡ true
+let-go-rest t (Entry entry) h f = one_rest (is_locked t (Entry entry)) (is_released t (Entry entry)) h f
+let-go-rest t (Names d) h f = dir_rest (is_locked t) (is_released t) d h f
+let-go-rest t (Parent d) h f = dir_rest (is_locked t) (is_released t) d h f
+let-go-rest t (Links i) h f = file_rest (is_locked t) (is_released t) i h f
+let-go-rest t (Bytes i) h f = file_rest (is_locked t) (is_released t) i h f
+let-go-rest t (Fd f) h g = one_rest (is_locked t (Fd f)) (is_released t (Fd f)) h g
+let-go-rest t (DirAttributes d) h f = dir_rest (is_locked t) (is_released t) d h f
+let-go-rest t (FileAttributes i) h f = file_rest (is_locked t) (is_released t) i h f
 
 -- each place of no use is known
 abbrev IsKnown : LockTable → Cells → Type 0
 IsKnown t cells = (c : Cell) → is_useless cells c ≡ true → at_place (is_known t) c ≡ true
 
-known-of : (t : LockTable) (cells : Cells) → IsAccounted (is_locked t) (is_let_go t) cells → IsKnown t cells
+known-of : (t : LockTable) (cells : Cells) → IsAccounted (is_locked t) (is_released t) cells → IsKnown t cells
 known-of t cells all c u = by_test (at_place (is_locked t) c)
-    (λ k. at_place-more (is_locked t) (is_known t) (λ x e. or_left (is_locked t x) (is_let_go t x) e) c k)
-    (λ k. at_place-more (is_let_go t) (is_known t) (λ x e. or_right (is_locked t x) (is_let_go t x) e) c (all c (and_from (is_useless cells c) (not (at_place (is_locked t) c)) u (ap not k))))
+    (λ k. at_place-more (is_locked t) (is_known t) (λ x e. or_left (is_locked t x) (is_released t x) e) c k)
+    (λ k. at_place-more (is_released t) (is_known t) (λ x e. or_right (is_locked t x) (is_released t x) e) c (all c (and_from (is_useless cells c) (not (at_place (is_locked t) c)) u (ap not k))))
 
-accounted-of : (t : LockTable) (cells : Cells) → IsKnown t cells → IsAccounted (is_locked t) (is_let_go t) cells
+accounted-of : (t : LockTable) (cells : Cells) → IsKnown t cells → IsAccounted (is_locked t) (is_released t) cells
 accounted-of t cells all c spare =
     let parts = and_parts (is_useless cells c) (not (at_place (is_locked t) c)) spare in
     let-go-rest t c (all c parts.0) (not_true (at_place (is_locked t) c) parts.1)
@@ -120,12 +120,12 @@ module _ (limits : TreeLimits) where
   fresh-none (DirAttributes d) = no-directory d
   fresh-none (FileAttributes i) = no-file i
 
-  pub fresh-accounted : (kept let_go : Cell → Bool) → IsAccounted kept let_go (fresh_cells limits)
-  fresh-accounted kept let_go c spare = absurd (false≢true (sym (fresh-none c) ∙ (and_parts (is_useless (fresh_cells limits) c) (not (at_place kept c)) spare).0))
+  pub fresh-accounted : (kept released_cells : Cell → Bool) → IsAccounted kept released_cells (fresh_cells limits)
+  fresh-accounted kept released_cells c spare = absurd (false≢true (sym (fresh-none c) ∙ (and_parts (is_useless (fresh_cells limits) c) (not (at_place kept c)) spare).0))
 
 -- The locks change, and know what they knew.
 
-pub still-accounted : (t t' : LockTable) (cells : Cells) → ((c : Cell) → is_known t c ≡ true → is_known t' c ≡ true) → IsAccounted (is_locked t) (is_let_go t) cells → IsAccounted (is_locked t') (is_let_go t') cells
+pub still-accounted : (t t' : LockTable) (cells : Cells) → ((c : Cell) → is_known t c ≡ true → is_known t' c ≡ true) → IsAccounted (is_locked t) (is_released t) cells → IsAccounted (is_locked t') (is_released t') cells
 still-accounted t t' cells knows all = accounted-of t' cells (λ c u. at_place-more (is_known t) (is_known t') knows c (known-of t cells all c u))
 
 -- A call is granted.
@@ -135,7 +135,7 @@ accessed-is [] c = refl
 accessed-is (a ∷ accesses) c = λ i. same_cell a.cell c || accessed-is accesses c i
 
 pub granted-accounted : (W : CallLaws) (K : LockLaws) (cells : Cells) (t t' : LockTable) (a : Stamped) (txn : ℕ) (accesses : List Access) → AreSoundCells cells → IsFree cells a.stamp → accesses ≡ accesses_of cells a.stamp a.call → AreGranted t t' txn accesses
-    → IsAccounted (is_locked t) (is_let_go t) cells → IsAccounted (is_locked t') (is_let_go t') (posix_calls.act cells a)
+    → IsAccounted (is_locked t) (is_released t) cells → IsAccounted (is_locked t') (is_released t') (posix_calls.act cells a)
 granted-accounted W K cells t t' a txn accesses sound free touched granted all = accounted-of t' (posix_calls.act cells a) (λ c u. elim (W.useless cells a sound free c u) [
   | inl was ↦ at_place-more (is_known t) (is_known t') (λ x e. K.known.granted t t' txn accesses granted x (or_left (is_known t x) (is_accessed accesses x) e)) c (known-of t cells all c was)
   | inr accessed ↦ at_place-more (accesses_cell (does cells a).accesses) (is_known t')
@@ -159,9 +159,9 @@ module _ (W : CallLaws) (cells : Cells) (e : Item) (own : IsOfWritten e) (t : Lo
   new = posix_calls.revert cells e.inverse
 
   written-known : (c : Cell) → writes_cell e.done.accesses c ≡ true → is_known t c ≡ true
-  written-known c h = or_left (is_locked t c) (is_let_go t c) (locked c h)
+  written-known c h = or_left (is_locked t c) (is_released t c) (locked c h)
 
-  pub reverted-accounted : LosesOwn posix_calls cells new e.done → AreSoundCells new → IsAccounted (is_locked t) (is_let_go t) cells → IsAccounted (is_locked t) (is_let_go t) new
+  pub reverted-accounted : LosesOwn posix_calls cells new e.done → AreSoundCells new → IsAccounted (is_locked t) (is_released t) cells → IsAccounted (is_locked t) (is_released t) new
   reverted-accounted loses sound all = accounted-of t new (λ c u. by_left c u (W.leaving cells e.inverse.before c (subst (λ s. is_useless s c ≡ true) (sym (put-write cells e.inverse.before)) u)))
     where
       -- a file that was open is the call's own, so the call wrote to it
@@ -180,7 +180,7 @@ module _ (W : CallLaws) (cells : Cells) (e : Item) (own : IsOfWritten e) (t : Lo
 
 -- A sweep leaves nothing to drop.
 
-pub swept-accounted : (t t' : LockTable) (cells : Cells) → t'.lines ≡ t.lines → HasNoneToDrop (is_locked t) cells → IsAccounted (is_locked t') (is_let_go t') cells
+pub swept-accounted : (t t' : LockTable) (cells : Cells) → t'.lines ≡ t.lines → HasNoneToDrop (is_locked t) cells → IsAccounted (is_locked t') (is_released t') cells
 swept-accounted t t' cells same none c spare = absurd (false≢true (sym (none c) ∙ ap (λ s. is_spare (λ x. list_any (λ (l : LockLine). same_cell l.cell x) (set.items s)) cells c) (sym same) ∙ spare))
 
 none-locked : (p : Cell → Bool) → ((c : Cell) → p c ≡ false) → (c : Cell) → at_place p c ≡ false

@@ -14,7 +14,7 @@ use Rattle.ft_posix.specs.Stored.{outcome}
 use Rattle.ft_posix.specs.Posix.{as_place, posix_calls}
 use Rattle.ft_forest.specs.declared.TheConstants.{LAST_NUMBER}
 use Rattle.ft_forest.specs.Transactions.{Transactions}
-use Rattle.ft_moss.specs.Locks.{AreBlockers}
+use Rattle.ft_lock_rules.specs.Locks.{AreBlockers}
 use Rattle.ft_history.specs.History.{grants}
 use Rattle.ft_history.specs.History.Fate.{Live}
 use Rattle.ft_core.specs.declared.request.Answer.TheVariants.{Granted}

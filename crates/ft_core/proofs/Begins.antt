@@ -1,18 +1,18 @@
 -- What a begin does to what a core keeps.
 use Rattle.std.proofs.Common.{◌≡◌, ◌≢◌, ◌<◌, ◌+◌, ℕ, Bool, true, false, cond, [], ◌∷◌, Option, Some, None, arith, refl, sym, ap, subst, ◌∙◌, ◌==◌}
 use Rattle.std.specs.FinMap as finite
-use Rattle.ft_base.specs.Chains.{Lists}
+use Rattle.ft_base.specs.OwnedLists.{Lists}
 use Rattle.ft_laws.proofs.Tests.{by_test}
 use Rattle.ft_cells.specs.Cells.{Cells}
 use Rattle.ft_tree.specs.Sweep.{IsAccounted}
 use Rattle.ft_posix.specs.Posix.{HasSoundValues, posix_calls}
-use Rattle.ft_undo.specs.declared.logs.Logged.{Logged}
+use Rattle.ft_undo.specs.declared.logs.LogRecord.{LogRecord}
 use Rattle.ft_undo.specs.Logs.{is_open}
 use Rattle.ft_forest.specs.declared.state.State.{State as Life}
 use Rattle.ft_forest.specs.declared.state.State.TheVariants.{Live as LiveState}
 use Rattle.ft_forest.specs.Transactions.{Transactions, parent_in, state_in, last_in, HasBegun}
-use Rattle.ft_moss.specs.Locks.{LockTable, has_lock, is_locked, is_let_go, is_opened}
-use Rattle.ft_moss.specs.Rules.{is_strict}
+use Rattle.ft_lock_rules.specs.Locks.{LockTable, has_lock, is_locked, is_released, is_opened}
+use Rattle.ft_lock_rules.specs.Rules.{is_strict}
 use Rattle.ft_history.specs.History.{Base as HistoryBase, Fate, fate, IsLive, last_transaction, last_stamp, parent, is_child}
 use Rattle.ft_history.specs.History.Fate.{Live, Committed, Aborted}
 use Rattle.ft_history.specs.History.Event.{Begin as WasBegun, Call as WasGranted, Undo as WasUndone, Commit as WasCommitted, Abort as WasAborted}
@@ -46,7 +46,7 @@ fate-cond : (b : Bool) (o : Option Life) → fate_in (cond b (Some LiveState) o)
 fate-cond true o = refl
 fate-cond false o = refl
 
-module _ (W : CallLaws) (K : LockLaws) {base : Base} {h : History} {asks : Asks} {last_txn last_number : ℕ} {cells : Cells} {forest : Transactions} {table : LockTable} {lists : Lists Logged} {j : Journaled} (core : IsCoreAt base h asks last_txn last_number cells forest table lists j) where
+module _ (W : CallLaws) (K : LockLaws) {base : Base} {h : History} {asks : Asks} {last_txn last_number : ℕ} {cells : Cells} {forest : Transactions} {table : LockTable} {lists : Lists LogRecord} {j : Journaled} (core : IsCoreAt base h asks last_txn last_number cells forest table lists j) where
   abbrev from : HistoryBase posix_calls
   from = start W core.kept
 
@@ -124,7 +124,7 @@ module _ (W : CallLaws) (K : LockLaws) {base : Base} {h : History} {asks : Asks}
         parents x = has.parents x ∙ ap (λ k. put (parent_in forest) k up x) number_is ∙ ap (cond (x == n) up) (core.transactions.parents x)
 
   -- places for a transaction that is to begin change nothing
-  pub core-opened : (table' : LockTable) (lists' : Lists Logged) (j' : Journaled) → AreAsBefore j j' table table' lists lists' (last_txn + 1) → IsCoreAt base h asks last_txn last_number cells forest table' lists' j'
+  pub core-opened : (table' : LockTable) (lists' : Lists LogRecord) (j' : Journaled) → AreAsBefore j j' table table' lists lists' (last_txn + 1) → IsCoreAt base h asks last_txn last_number cells forest table' lists' j'
   core-opened table' lists' j' same = record {
     log = core.log;
     kept = core.kept;
@@ -138,7 +138,7 @@ module _ (W : CallLaws) (K : LockLaws) {base : Base} {h : History} {asks : Asks}
         let last_is = core.kept.started.last_txn_is in
         record { locks = same.opened t was.locks; log = same.open_still t was.log; sub = same.subs t (λ is. absurd (omega arith)) ∙ was.sub };
     waiting = core.waiting;
-    accounted = subst (λ (q : LockTable). IsAccounted (is_locked q) (is_let_go q) cells) (sym same.locks) core.accounted;
+    accounted = subst (λ (q : LockTable). IsAccounted (is_locked q) (is_released q) cells) (sym same.locks) core.accounted;
     within = still-within base forest forest j j' refl (ap (λ (q : Journaled). q.calls) same.journal) core.within;
     bare = core.bare;
   }

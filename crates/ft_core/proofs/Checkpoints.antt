@@ -4,7 +4,7 @@ use Rattle.std.specs.Prelude.{nat_lt, MatchBool}
 use Rattle.std.proofs.lemmas.Bool.{false≢true, and_parts, lt-ltb}
 use Rattle.std.specs.Ordering.{nat_cmp}
 use Rattle.std.specs.FinMap as finite
-use Rattle.ft_base.specs.Chains.{Lists}
+use Rattle.ft_base.specs.OwnedLists.{Lists}
 use Rattle.ft_laws.specs.Lists.{In}
 use Rattle.ft_laws.proofs.Tests.{by_test}
 use Rattle.ft_cells.specs.declared.cell.Cell.{Cell}
@@ -13,11 +13,11 @@ use Rattle.ft_tree.specs.Sweep.{is_useless, at_place}
 use Rattle.ft_tree.specs.Tidy.{tidy}
 use Rattle.ft_posix.specs.declared.call.Call.{Call}
 use Rattle.ft_posix.specs.Posix.{posix_calls}
-use Rattle.ft_undo.specs.declared.logs.Logged.{Logged}
+use Rattle.ft_undo.specs.declared.logs.LogRecord.{LogRecord}
 use Rattle.ft_undo.specs.Logs.{AreLists}
 use Rattle.ft_forest.specs.declared.state.State.TheVariants.{Live as LiveState}
 use Rattle.ft_forest.specs.Transactions.{Transactions, none_since, state_in, last_in, parent_of, state_of as life_of}
-use Rattle.ft_moss.specs.Locks.{LockTable, no_locks, is_locked}
+use Rattle.ft_lock_rules.specs.Locks.{LockTable, no_locks, is_locked}
 use Rattle.ft_history.specs.History.{Base as HistoryBase, Fate, is_live, IsFresh, begun}
 use Rattle.ft_history.specs.History.Fate.{Live}
 use Rattle.ft_history.specs.Logs.{passing}
@@ -89,7 +89,7 @@ module _ (W : CallLaws) (K : LockLaws) (p : Parts) (j : Journaled) (core : IsCor
 
     -- The core from the new base: nobody has a lock, nothing can be taken back, and no place is of
     -- no use.
-    module _ (useless : (c : Cell) → is_useless cells c ≡ false) (fresh-lists : Lists Logged) (empty : AreLists fresh-lists (λ t. [])) where
+    module _ (useless : (c : Cell) → is_useless cells c ≡ false) (fresh-lists : Lists LogRecord) (empty : AreLists fresh-lists (λ t. [])) where
       abbrev q : Journaled
       q = no_events j.rule j.calls (tidy cells) j.last_stamp
 
@@ -144,7 +144,7 @@ module _ (W : CallLaws) (K : LockLaws) (p : Parts) (j : Journaled) (core : IsCor
           not_live e = cc
 
     pub core-restarted : ((c : Cell) → is_useless cells c ≡ false) → (f' : Transactions) → f' ≡ none_since forest.limits (last_in forest) → (copy : Cells) → copy ≡ cells → (rule : _) → rule ≡ j.rule → (calls : ℕ) → calls ≡ j.calls → (stamp : ℕ) → stamp ≡ j.last_stamp
-        → (table' : LockTable) → table' ≡ no_locks → (lists' : Lists Logged) → AreLists lists' (λ t. []) → (j' : Journaled) → j' ≡ no_events rule calls (tidy copy) stamp → IsCoreOf (state_of f' j') (parts cells f' table' lists') j'
+        → (table' : LockTable) → table' ≡ no_locks → (lists' : Lists LogRecord) → AreLists lists' (λ t. []) → (j' : Journaled) → j' ≡ no_events rule calls (tidy copy) stamp → IsCoreOf (state_of f' j') (parts cells f' table' lists') j'
     core-restarted useless f' first copy same rule is calls as_many stamp last table' new lists' empty j' told =
         subst (λ (k : Journaled). IsCoreOf (state_of f' k) (parts cells f' table' lists') k) (sym (told ∙ (λ i. no_events (is i) (as_many i) (tidy (same i)) (last i))))
         (subst (λ (m : Transactions). IsCoreOf (state_of m (q useless lists' empty)) (parts cells m table' lists') (q useless lists' empty)) (sym first)

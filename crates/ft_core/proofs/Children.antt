@@ -2,15 +2,15 @@
 use Rattle.std.proofs.Common.{◌≡◌, ℕ, Bool, true, false, cond, List, [], ◌∷◌, Option, Some, None, is_some, inl, length, arith, refl, sym, ap, subst, ◌∙◌}
 use Rattle.std.specs.Prelude.{nat_lt, MatchBool}
 use Rattle.std.proofs.lemmas.Bool.{false≢true, lt-ltb}
-use Rattle.ft_base.specs.Chains.{Lists}
+use Rattle.ft_base.specs.OwnedLists.{Lists}
 use Rattle.ft_laws.specs.Lists.{Each, In}
 use Rattle.ft_laws.proofs.Tests.{by_test}
 use Rattle.ft_cells.specs.Cells.{Cells}
 use Rattle.ft_posix.specs.Posix.{posix_calls}
-use Rattle.ft_undo.specs.declared.logs.Logged.{Logged}
+use Rattle.ft_undo.specs.declared.logs.LogRecord.{LogRecord}
 use Rattle.ft_forest.specs.declared.state.State.TheVariants.{Live as LiveState}
 use Rattle.ft_forest.specs.Transactions.{Transactions, state_in, IsLiveUnder, IsLiveChild, IsYoungestChild}
-use Rattle.ft_moss.specs.Locks.{LockTable}
+use Rattle.ft_lock_rules.specs.Locks.{LockTable}
 use Rattle.ft_history.specs.History.{Base as HistoryBase, IsLive, parent, live_children}
 use Rattle.ft_history.specs.Logs.{passing}
 use Rattle.ft_history.proofs.Fates.{children}
@@ -31,7 +31,7 @@ nothing-passes p (x ∷ xs) h = by_test (p x)
     (λ k. absurd (h.0 k))
     (λ k. ap (λ b. length (cond b (x ∷ passing p xs) (passing p xs))) k ∙ nothing-passes p xs h.1)
 
-module _ (W : CallLaws) {base : Base} {h : History} {asks : Asks} {last_txn last_number : ℕ} {cells : Cells} {forest : Transactions} {table : LockTable} {lists : Lists Logged} {j : Journaled} (core : IsCoreAt base h asks last_txn last_number cells forest table lists j) where
+module _ (W : CallLaws) {base : Base} {h : History} {asks : Asks} {last_txn last_number : ℕ} {cells : Cells} {forest : Transactions} {table : LockTable} {lists : Lists LogRecord} {j : Journaled} (core : IsCoreAt base h asks last_txn last_number cells forest table lists j) where
   abbrev from : HistoryBase posix_calls
   from = start W core.kept
 

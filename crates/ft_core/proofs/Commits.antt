@@ -2,20 +2,20 @@
 use Rattle.std.proofs.Common.{◌≡◌, ◌≢◌, ◌==◌, ℕ, true, false, not, cond, List, [], ◌∷◌, ◌++◌, Option, Some, None, is_some, IsSome, arith, refl, sym, ap, subst, ◌∙◌, ne_eqb, eq-eqb}
 use Rattle.std.proofs.lemmas.Bool.{false≢true, and_parts}
 use Rattle.std.specs.FinMap as finite
-use Rattle.ft_base.specs.Chains.{Lists, list_in}
+use Rattle.ft_base.specs.OwnedLists.{Lists, list_in}
 use Rattle.ft_cells.specs.declared.cell.Cell.{Cell}
 use Rattle.ft_cells.specs.Cells.{Cells}
 use Rattle.ft_posix.specs.Posix.{posix_calls}
-use Rattle.ft_undo.specs.declared.logs.Logged.{Logged}
+use Rattle.ft_undo.specs.declared.logs.LogRecord.{LogRecord}
 use Rattle.ft_undo.specs.Logs.{is_open, AreLists, AreOpen}
 use Rattle.ft_forest.specs.declared.state.State.{State as Life}
 use Rattle.ft_forest.specs.declared.state.State.TheVariants.{Committed as CommittedState}
 use Rattle.ft_forest.specs.Transactions.{Transactions, parent_in, state_in, IsLiveChild, HasEnded}
-use Rattle.ft_moss.specs.Locks.{LockTable, has_lock, is_opened}
-use Rattle.ft_moss.specs.Rules.{is_strict}
-use Rattle.ft_moss.specs.Surveys.{HasNoHolderAbove}
-use Rattle.ft_moss.specs.Law.{AreLocksOf}
-use Rattle.ft_moss.specs.Knowing.{is_known}
+use Rattle.ft_lock_rules.specs.Locks.{LockTable, has_lock, is_opened}
+use Rattle.ft_lock_rules.specs.Rules.{is_strict}
+use Rattle.ft_lock_rules.specs.Surveys.{HasNoHolderAbove}
+use Rattle.ft_lock_rules.specs.Law.{AreLocksOf}
+use Rattle.ft_lock_rules.specs.Knowing.{is_known}
 use Rattle.ft_history.specs.Forest.{is_some_and}
 use Rattle.ft_history.specs.History.{Base as HistoryBase, Fate, fate, IsLive, parent, last_stamp}
 use Rattle.ft_history.specs.History.Fate.{Live, Committed}
@@ -49,19 +49,19 @@ fate-put f g n x same = by_test (x == n)
     (λ k. ap (λ b. fate_in (cond b (Some CommittedState) (f x))) k ∙ same ∙ sym (ap (λ b. cond b (Some Committed) (g x)) k))
 
 -- one list behind another
-pub logged-append : (es fs : List Item) (xs ys : List Logged) → AreLogged es xs → AreLogged fs ys → AreLogged (es ++ fs) (xs ++ ys)
+pub logged-append : (es fs : List Item) (xs ys : List LogRecord) → AreLogged es xs → AreLogged fs ys → AreLogged (es ++ fs) (xs ++ ys)
 logged-append [] fs [] ys h k = k
 logged-append [] fs (x ∷ xs) ys h k = absurd h
 logged-append (e ∷ es) fs [] ys h k = absurd h
 logged-append (e ∷ es) fs (x ∷ xs) ys h k = (h.0, logged-append es fs xs ys h.1 k)
 
 -- the lists of transactions when one list is set
-pub logged-put : (log : ℕ → List Item) (lists : ℕ → List Logged) → ((t : ℕ) → AreLogged (log t) (lists t)) → (n : ℕ) (es : List Item) (xs : List Logged) → AreLogged es xs → (t : ℕ) → AreLogged (put log n es t) (put lists n xs t)
+pub logged-put : (log : ℕ → List Item) (lists : ℕ → List LogRecord) → ((t : ℕ) → AreLogged (log t) (lists t)) → (n : ℕ) (es : List Item) (xs : List LogRecord) → AreLogged es xs → (t : ℕ) → AreLogged (put log n es t) (put lists n xs t)
 logged-put log lists same n es xs h t = by_test (t == n)
     (λ k. subst (λ b. AreLogged (cond b es (log t)) (cond b xs (lists t))) (sym k) h)
     (λ k. subst (λ b. AreLogged (cond b es (log t)) (cond b xs (lists t))) (sym k) (same t))
 
-logged-handed : (log : ℕ → List Item) (lists : ℕ → List Logged) → ((t : ℕ) → AreLogged (log t) (lists t)) → (n : ℕ) (up : Option ℕ) (t : ℕ) → AreLogged (handed log n up t) (handed lists n up t)
+logged-handed : (log : ℕ → List Item) (lists : ℕ → List LogRecord) → ((t : ℕ) → AreLogged (log t) (lists t)) → (n : ℕ) (up : Option ℕ) (t : ℕ) → AreLogged (handed log n up t) (handed lists n up t)
 logged-handed log lists same n None = logged-put log lists same n [] [] tt
 logged-handed log lists same n (Some p) =
     logged-put (put log p (log n ++ log p)) (put lists p (lists n ++ lists p))
@@ -71,7 +71,7 @@ pub handed-opened : (old new : LockTable) (n : ℕ) (up : Option ℕ) → AreHan
 handed-opened old new n None h = opened-other old new n h.opened
 handed-opened old new n (Some p) h = opened-other old new n h.opened
 
-module _ (W : CallLaws) (K : LockLaws) {base : Base} {h : History} {asks : Asks} {last_txn last_number : ℕ} {cells : Cells} {forest : Transactions} {table : LockTable} {lists : Lists Logged} {j : Journaled} (core : IsCoreAt base h asks last_txn last_number cells forest table lists j) (t : ℕ) (live : IsLive posix_calls base.last_txn h t) (no_live : (x : ℕ) → IsLiveChild forest t x → ⊥) where
+module _ (W : CallLaws) (K : LockLaws) {base : Base} {h : History} {asks : Asks} {last_txn last_number : ℕ} {cells : Cells} {forest : Transactions} {table : LockTable} {lists : Lists LogRecord} {j : Journaled} (core : IsCoreAt base h asks last_txn last_number cells forest table lists j) (t : ℕ) (live : IsLive posix_calls base.last_txn h t) (no_live : (x : ℕ) → IsLiveChild forest t x → ⊥) where
   abbrev from : HistoryBase posix_calls
   from = start W core.kept
 
@@ -148,7 +148,7 @@ module _ (W : CallLaws) (K : LockLaws) {base : Base} {h : History} {asks : Asks}
   calls-noted (Some p) = refl
 
   pub core-commit : j.last_stamp ≡ last_number → (up : Option ℕ) → up ≡ parent_in forest t → (forest' : Transactions) → HasEnded forest forest' t CommittedState → (table' : LockTable) → AreHandedUp table table' t up
-      → (lists' : Lists Logged) → AreLists lists' (handed (list_in lists) t up) → AreOpen lists' (put (is_open lists) t false) → (j' : Journaled) → j' ≡ with_event (without (noted_up j up) t) (Commit t)
+      → (lists' : Lists LogRecord) → AreLists lists' (handed (list_in lists) t up) → AreOpen lists' (put (is_open lists) t false) → (j' : Journaled) → j' ≡ with_event (without (noted_up j up) t) (Commit t)
       → IsCoreAt base after (finite.remove asks t) last_txn last_number cells forest' table' lists' j'
   core-commit last up up_is forest' has table' handed_up lists' are opened j' is =
       let parent_is : parent posix_calls h t ≡ up = sym (up_is ∙ core.transactions.parents t) in

@@ -5,7 +5,7 @@ use Rattle.std.proofs.lemmas.Bool.{false≢true, and_parts, ltb-true, leb-true}
 use Rattle.std.specs.Cmp.{nat_cmp_total, unsigned_tied}
 use Rattle.std.specs.Ordering.{nat_cmp}
 use Rattle.std.specs.FinMap as finite
-use Rattle.ft_base.specs.Chains.{Lists}
+use Rattle.ft_base.specs.OwnedLists.{Lists}
 use Rattle.ft_laws.proofs.Tests.{by_test}
 use Rattle.ft_cells.specs.declared.limits.TreeLimits.{TreeLimits}
 use Rattle.ft_cells.specs.Cells.{Cells, fresh_cells}
@@ -14,13 +14,13 @@ use Rattle.ft_tree.specs.Sweep.{IsAccounted, is_useless}
 use Rattle.ft_tree.specs.Tidy.{tidy}
 use Rattle.ft_posix.specs.declared.call.Call.{Call}
 use Rattle.ft_posix.specs.Posix.{posix_calls}
-use Rattle.ft_undo.specs.declared.logs.Logged.{Logged}
+use Rattle.ft_undo.specs.declared.logs.LogRecord.{LogRecord}
 use Rattle.ft_undo.specs.Logs.{AreLists}
 use Rattle.ft_forest.specs.declared.limits.ForestLimits.{ForestLimits}
 use Rattle.ft_forest.specs.Transactions.{Transaction, Transactions, none_since, transaction_in, parent_of, state_of as life_of}
-use Rattle.ft_moss.specs.declared.rule.Rule.{Rule}
-use Rattle.ft_moss.specs.Rules.{is_strict}
-use Rattle.ft_moss.specs.Locks.{LockTable, no_locks, is_locked, is_let_go}
+use Rattle.ft_lock_rules.specs.declared.rule.Rule.{Rule}
+use Rattle.ft_lock_rules.specs.Rules.{is_strict}
+use Rattle.ft_lock_rules.specs.Locks.{LockTable, no_locks, is_locked, is_released}
 use Rattle.ft_history.specs.History.{Fate, fate, IsLive}
 use Rattle.ft_history.specs.History.Fate.{Live, Committed, Aborted}
 use Rattle.ft_history.proofs.Words.{by_number}
@@ -49,7 +49,7 @@ abbrev pub AreAllowed : ℕ → ForestLimits → TreeLimits → Type 0
 AreAllowed calls few limits = are_within (record { file_size = limits.file_size; links = limits.links; depth = few.depth; transactions = few.transactions; calls = calls }) greatest_limits ≡ true
 
 -- new: the root alone
-pub core-first : CallLaws → LockLaws → (rule : Rule) (calls : ℕ) (few : ForestLimits) (limits : TreeLimits) (cells : Cells) → cells ≡ fresh_cells limits → AreSoundCells cells → ((k : ℕ) → 2 ≤ k → IsFree cells k) → (lists : Lists Logged) → AreLists lists (λ t. [])
+pub core-first : CallLaws → LockLaws → (rule : Rule) (calls : ℕ) (few : ForestLimits) (limits : TreeLimits) (cells : Cells) → cells ≡ fresh_cells limits → AreSoundCells cells → ((k : ℕ) → 2 ≤ k → IsFree cells k) → (lists : Lists LogRecord) → AreLists lists (λ t. [])
     → AreAllowed calls few limits → IsCoreOf (state_of (none_since few 0) (no_events rule calls (tidy cells) 1)) (parts cells (none_since few 0) no_locks lists) (no_events rule calls (tidy cells) 1)
 core-first W K rule calls few limits cells fresh sound free lists none within = record {
   log = λ t. [];
@@ -80,7 +80,7 @@ core-first W K rule calls few limits cells fresh sound free lists none within = 
   logs = record { logged = λ t. subst (AreLogged []) (sym (none t)) tt; placed = λ t e i. absurd i };
   ready = λ t live. absurd (not_live (sym (unborn 0 t) ∙ live));
   waiting = λ t some. absurd (false≢true (sym (ap is_some (finite.get-empty {X = Call} nat_cmp t)) ∙ some));
-  accounted = subst (IsAccounted (is_locked no_locks) (is_let_go no_locks)) (sym fresh) (fresh-accounted limits (is_locked no_locks) (is_let_go no_locks));
+  accounted = subst (IsAccounted (is_locked no_locks) (is_released no_locks)) (sym fresh) (fresh-accounted limits (is_locked no_locks) (is_released no_locks));
   within = (λ i. are_within (record { file_size = (fresh i).limits.file_size; links = (fresh i).limits.links; depth = few.depth; transactions = few.transactions; calls = calls }) greatest_limits) ∙ within;
   bare = λ e c. ap (λ k. is_useless k c) fresh ∙ fresh-none limits c;
 }
@@ -88,7 +88,7 @@ core-first W K rule calls few limits cells fresh sound free lists none within = 
     not_live : {f : Fate} → None ≡ Some f → ⊥
     not_live e = cc
 
-pub core-new : CallLaws → LockLaws → (rule : Rule) (calls : ℕ) (few : ForestLimits) (limits : TreeLimits) (cells : Cells) → cells ≡ fresh_cells limits → AreSoundCells cells → ((k : ℕ) → 2 ≤ k → IsFree cells k) → (lists : Lists Logged) → AreLists lists (λ t. []) → (forest : Transactions) → forest ≡ none_since few 0
+pub core-new : CallLaws → LockLaws → (rule : Rule) (calls : ℕ) (few : ForestLimits) (limits : TreeLimits) (cells : Cells) → cells ≡ fresh_cells limits → AreSoundCells cells → ((k : ℕ) → 2 ≤ k → IsFree cells k) → (lists : Lists LogRecord) → AreLists lists (λ t. []) → (forest : Transactions) → forest ≡ none_since few 0
     → (table : LockTable) → table ≡ no_locks → (j : Journaled) → j ≡ no_events rule calls (tidy cells) 1 → AreAllowed calls few limits → IsCoreOf (state_of forest j) (parts cells forest table lists) j
 core-new W K rule calls few limits cells fresh sound free lists none forest first table empty j is within =
     let q : Journaled = no_events rule calls (tidy cells) 1 in
@@ -97,7 +97,7 @@ core-new W K rule calls few limits cells fresh sound free lists none forest firs
     (subst (λ (t : LockTable). IsCoreOf (state_of (none_since few 0) q) (parts cells (none_since few 0) t lists) q) (sym empty)
     (core-first W K rule calls few limits cells fresh sound free lists none within)))
 
-module _ {base : Base} {h : History} {asks : Asks} {last_txn last_number : ℕ} {cells : Cells} {forest : Transactions} {table : LockTable} {lists : Lists Logged} {j : Journaled} (core : IsCoreAt base h asks last_txn last_number cells forest table lists j) where
+module _ {base : Base} {h : History} {asks : Asks} {last_txn last_number : ℕ} {cells : Cells} {forest : Transactions} {table : LockTable} {lists : Lists LogRecord} {j : Journaled} (core : IsCoreAt base h asks last_txn last_number cells forest table lists j) where
   -- others wait
   pub core-asks : (asks' : Asks) → ((t : ℕ) → is_some (finite.get asks' t) ≡ true → IsLive posix_calls base.last_txn h t) → (j' : Journaled) → j'.rule ≡ j.rule → j'.subs ≡ j.subs → j'.calls ≡ j.calls → IsCoreAt base h asks' last_txn last_number cells forest table lists j'
   core-asks asks' waiting j' rule subs calls = record {

@@ -2,7 +2,7 @@
 -- that holds a snapshot, which has no bytes, nor of what such a type stands in.
 use denote.Param.Send.{IsSend, sendable}
 use Rattle.std.proofs.Crossing.{crosses}
-use Rattle.ft_base.proofs.chains.Chains.TheSendSync as chains
+use Rattle.ft_base.proofs.owned_lists.OwnedLists.TheSendSync as chains
 use Rattle.ft_base.proofs.paged_table.PagedTable.TheSendSync as paged_table
 use Rattle.ft_base.proofs.table.Table.TheSendSync as table
 use Rattle.ft_path.proofs.name.Name.TheSendSync as name
@@ -17,9 +17,9 @@ use Rattle.ft_locks.proofs.locks.Locks.TheSendSync as locks
 use Rattle.ft_undo.proofs.entry_was.EntryWas.TheSendSync as entry_was
 use Rattle.ft_undo.specs.contracts.bytes_undo.BytesUndo as BytesUndo
 use Rattle.ft_undo.specs.contracts.time_undo.TimeUndo as TimeUndo
-use Rattle.ft_undo.specs.contracts.undo.Back as Back
+use Rattle.ft_undo.specs.contracts.undo.BeforeImage as BeforeImage
 use Rattle.ft_undo.specs.contracts.undo.Undo as Undo
-use Rattle.ft_undo.specs.contracts.logs.Logged as Logged
+use Rattle.ft_undo.specs.contracts.logs.LogRecord as LogRecord
 use Rattle.ft_undo.specs.contracts.logs.Logs as Logs
 use Rattle.ft_core.proofs.past.Past.TheSendSync as past
 use Rattle.ft_core.proofs.journal.Terms.TheSendSync as terms
@@ -37,17 +37,17 @@ BytesUndo-send = search (FileUndo-send, crosses, sendable) depth 40
 TimeUndo-send : IsSend TimeUndo.the_row
 TimeUndo-send = search (rare.the_send, crosses, sendable) depth 40
 
-Back-send : IsSend Back.the_row
-Back-send = search (BytesUndo-send, TimeUndo-send, rare.the_send, name.the_send, entry_was.the_send, open_file.the_field_send, sendable) depth 40
+BeforeImage-send : IsSend BeforeImage.the_row
+BeforeImage-send = search (BytesUndo-send, TimeUndo-send, rare.the_send, name.the_send, entry_was.the_send, open_file.the_field_send, sendable) depth 40
 
 Undo-send : IsSend Undo.the_row
-Undo-send = search (Back-send, crosses, sendable) depth 40
+Undo-send = search (BeforeImage-send, crosses, sendable) depth 40
 
-Logged-send : IsSend Logged.the_row
-Logged-send = search (Undo-send, sendable) depth 20
+LogRecord-send : IsSend LogRecord.the_row
+LogRecord-send = search (Undo-send, sendable) depth 20
 
 Logs-send : IsSend Logs.the_row
-Logs-send = let chains = chains.the_send Logged.the_row Logged-send in search sendable depth 20
+Logs-send = let chains = chains.the_send LogRecord.the_row LogRecord-send in search sendable depth 20
 
 Journal-send : IsSend Journal.the_row
 Journal-send = search (past.the_send, terms.the_field_send, call.the_send, table.the_send, paged_table.the_send, tree.the_send, crosses, sendable) depth 40

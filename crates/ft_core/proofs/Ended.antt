@@ -2,12 +2,12 @@
 use Rattle.std.proofs.Common.{◌≡◌, ℕ, true, false, List, [], ◌∷◌, ◌++◌, Option, Some, None, Result, Ok, Err, IfOk, IfErr, OnOk, OnErr, MatchOption, length, refl, sym, ap, subst, ◌∙◌}
 use Rattle.std.specs.Prelude.{nat_lt}
 use Rattle.std.specs.FinMap as finite
-use Rattle.ft_base.specs.Chains.{Lists}
+use Rattle.ft_base.specs.OwnedLists.{Lists}
 use Rattle.ft_cells.specs.Cells.{Cells}
 use Rattle.ft_posix.specs.Posix.{posix_calls}
-use Rattle.ft_undo.specs.declared.logs.Logged.{Logged}
+use Rattle.ft_undo.specs.declared.logs.LogRecord.{LogRecord}
 use Rattle.ft_forest.specs.Transactions.{Transactions, last_in}
-use Rattle.ft_moss.specs.Locks.{LockTable}
+use Rattle.ft_lock_rules.specs.Locks.{LockTable}
 use Rattle.ft_history.specs.History.Fate.{Live}
 use Rattle.ft_core.specs.declared.fault.Fault.{Fault}
 use Rattle.ft_core.specs.declared.fault.Fault.TheVariants.{Memory, ChildLive}
@@ -45,7 +45,7 @@ pub state-ended : (forest forest' : Transactions) (j j' : Journaled) (e : Event)
 state-ended forest forest' j j' e asks limits base last has =
     λ i. record { rule = has.rule i; limits = record { depth = (limits i).depth; transactions = (limits i).transactions; calls = has.calls i }; base = record { tree = has.base_tree i; last_txn = base i; last_stamp = has.base_stamp i }; events = has.events i; asks = has.asks_are i; last_txn = last i; last_stamp = has.last_stamp i }
 
-pub core-ended : (s s' : State) (e : Event) (asks : Asks) {cells : Cells} {forest : Transactions} {table : LockTable} {lists : Lists Logged} {j : Journaled} → s' ≡ ended s e asks
+pub core-ended : (s s' : State) (e : Event) (asks : Asks) {cells : Cells} {forest : Transactions} {table : LockTable} {lists : Lists LogRecord} {j : Journaled} → s' ≡ ended s e asks
     → IsCoreAt s.base (as_happening e ∷ history s) asks s.last_txn s.last_stamp cells forest table lists j → IsCoreOf s' (parts cells forest table lists) j
 core-ended s s' e asks {cells} {forest} {table} {lists} {j} is core =
     subst (λ (q : State). IsCoreOf q (parts cells forest table lists) j) (sym is)

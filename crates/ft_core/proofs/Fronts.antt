@@ -12,12 +12,12 @@ use Rattle.ft_posix.specs.Accesses.{conflict}
 use Rattle.ft_posix.specs.Besides.{IsReadOf, AreAlikeBut, reads_of}
 use Rattle.ft_posix.proofs.Accessed.{in-any, any-in}
 use Rattle.ft_forest.specs.Transactions.{Transactions, over_in}
-use Rattle.ft_moss.specs.declared.rule.Rule.{Rule}
-use Rattle.ft_moss.specs.declared.line.LockKind.TheVariants.{Held}
-use Rattle.ft_moss.specs.declared.line.LockLine.{LockLine}
-use Rattle.ft_moss.specs.Rules.{is_strict}
-use Rattle.ft_moss.specs.Locks.{LockTable, has_lock, is_let_go, is_held, same_mode, has_access, is_accessed, is_given, line_access, counts, AreGranted, IsInTheWay, AreBlockers}
-use Rattle.ft_moss.specs.Surveys.{HasItsCellsAlone, HasNoHolderAbove}
+use Rattle.ft_lock_rules.specs.declared.rule.Rule.{Rule}
+use Rattle.ft_lock_rules.specs.declared.line.LockKind.TheVariants.{Held}
+use Rattle.ft_lock_rules.specs.declared.line.LockLine.{LockLine}
+use Rattle.ft_lock_rules.specs.Rules.{is_strict}
+use Rattle.ft_lock_rules.specs.Locks.{LockTable, has_lock, is_released, is_held, same_mode, has_access, is_accessed, is_given, line_access, counts, AreGranted, IsInTheWay, AreBlockers}
+use Rattle.ft_lock_rules.specs.Surveys.{HasItsCellsAlone, HasNoHolderAbove}
 
 -- the access of a read
 abbrev read : Cell → Access
@@ -115,18 +115,18 @@ module _ (table : LockTable) (t : ℕ) (front : List Cell) (held : AreGranted ta
   gone true e = e
   gone false e = refl
 
-  accessed-in : (xs ys : List Access) → ((a : Access) → In a xs → In a ys ⊎ IsReadOf front a) → (c : Cell) → is_accessed xs c ≡ true → (is_accessed ys c ≡ true) ⊎ (is_let_go table c ≡ false)
+  accessed-in : (xs ys : List Access) → ((a : Access) → In a xs → In a ys ⊎ IsReadOf front a) → (c : Cell) → is_accessed xs c ≡ true → (is_accessed ys c ≡ true) ⊎ (is_released table c ≡ false)
   accessed-in xs ys alike c accessed =
       let found = any-in (λ a. same_cell a.cell c) xs accessed in
       elim (alike found.0 found.1) [
         | inl i ↦ inl (in-any (λ a. same_cell a.cell c) found.0 ys i found.2)
-        | inr h ↦ inr (gone (is_let_go table c) (held.let_go c ∙ ap (λ b. is_let_go table c && not b) (in-any (λ a. same_cell a.cell c) found.0 (reads_of front) (of-read front found.0 h) found.2)))
+        | inr h ↦ inr (gone (is_released table c) (held.released_cells c ∙ ap (λ b. is_released table c && not b) (in-any (λ a. same_cell a.cell c) found.0 (reads_of front) (of-read front found.0 h) found.2)))
       ]
 
   pub alike-granted : (new : LockTable) (xs ys : List Access) → AreAlikeBut front xs ys → AreGranted table new t xs → AreGranted table new t ys
   alike-granted new xs ys alike granted = record {
     lines = λ l. granted.lines l ∙ either-way (has_lock table l) (is_given t xs l) (is_given t ys l) (given-in xs ys alike.one l) (given-in ys xs alike.other l);
-    let_go = λ c. granted.let_go c ∙ stays-or-goes (is_let_go table c) (is_accessed xs c) (is_accessed ys c) (accessed-in xs ys alike.one c) (accessed-in ys xs alike.other c);
+    released_cells = λ c. granted.released_cells c ∙ stays-or-goes (is_released table c) (is_accessed xs c) (is_accessed ys c) (accessed-in xs ys alike.one c) (accessed-in ys xs alike.other c);
     opened = granted.opened;
   }
 
@@ -147,6 +147,6 @@ still-gone true false false a was is = refl
 pub still-held : (old new : LockTable) (t u : ℕ) (reads accesses : List Access) → AreGranted old old t reads → AreGranted old new u accesses → AreGranted new new t reads
 still-held old new t u reads accesses held granted = record {
   lines = λ l. still-there (has_lock old l) (has_lock new l) (is_given t reads l) (is_given u accesses l) (held.lines l) (granted.lines l);
-  let_go = λ c. still-gone (is_let_go old c) (is_let_go new c) (is_accessed reads c) (is_accessed accesses c) (held.let_go c) (granted.let_go c);
+  released_cells = λ c. still-gone (is_released old c) (is_released new c) (is_accessed reads c) (is_accessed accesses c) (held.released_cells c) (granted.released_cells c);
   opened = refl;
 }

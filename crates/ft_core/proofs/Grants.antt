@@ -2,7 +2,7 @@
 use Rattle.std.proofs.Common.{◌≡◌, ◌<◌, ◌≤◌, ◌+◌, ℕ, true, List, [], ◌∷◌, inl, inr, is_some, map, arith, refl, sym, ap, subst, ◌∙◌}
 use Rattle.std.specs.FinMap as finite
 use Rattle.std.specs.FinSet as set
-use Rattle.ft_base.specs.Chains.{Lists, list_in}
+use Rattle.ft_base.specs.OwnedLists.{Lists, list_in}
 use Rattle.ft_laws.specs.Lists.{Each, In}
 use Rattle.ft_laws.specs.Calls.{Reverts}
 use Rattle.ft_laws.specs.Effects.{Has, before, write_all, reversal_of}
@@ -20,11 +20,11 @@ use Rattle.ft_posix.specs.Outcomes.{Write}
 use Rattle.ft_posix.specs.Stored.{outcome}
 use Rattle.ft_posix.specs.RunLaws.{writes_cell}
 use Rattle.ft_posix.specs.Posix.{HasSoundValues, Stamped, as_place, posix, posix_calls}
-use Rattle.ft_undo.specs.declared.logs.Logged.{Logged}
+use Rattle.ft_undo.specs.declared.logs.LogRecord.{LogRecord}
 use Rattle.ft_forest.specs.declared.TheConstants.{LAST_NUMBER}
 use Rattle.ft_forest.specs.Transactions.{Transactions}
-use Rattle.ft_moss.specs.Locks.{LockTable, is_locked, is_let_go, AreBlockers}
-use Rattle.ft_moss.specs.Rules.{is_strict}
+use Rattle.ft_lock_rules.specs.Locks.{LockTable, is_locked, is_released, AreBlockers}
+use Rattle.ft_lock_rules.specs.Rules.{is_strict}
 use Rattle.ft_history.specs.History.{Base as HistoryBase, last_stamp, IsLive, grants, number}
 use Rattle.ft_history.specs.History.Event.{Call as WasGranted}
 use Rattle.ft_history.specs.Locks.{blockers_of}
@@ -61,7 +61,7 @@ started-granted base h last_txn last_number c next few started = record {
   within = few;
 }
 
-module _ (W : CallLaws) (K : LockLaws) {base : Base} {h : History} {asks : Asks} {last_txn last_number : ℕ} {cells : Cells} {forest : Transactions} {table : LockTable} {lists : Lists Logged} {j : Journaled} (core : IsCoreAt base h asks last_txn last_number cells forest table lists j) where
+module _ (W : CallLaws) (K : LockLaws) {base : Base} {h : History} {asks : Asks} {last_txn last_number : ℕ} {cells : Cells} {forest : Transactions} {table : LockTable} {lists : Lists LogRecord} {j : Journaled} (core : IsCoreAt base h asks last_txn last_number cells forest table lists j) where
   abbrev from : HistoryBase posix_calls
   from = start W core.kept
 
@@ -77,7 +77,7 @@ module _ (W : CallLaws) (K : LockLaws) {base : Base} {h : History} {asks : Asks}
     abbrev table' : LockTable
     table' = p'.locks
 
-    abbrev lists' : Lists Logged
+    abbrev lists' : Lists LogRecord
     lists' = p'.logs
 
     abbrev c : Granted
@@ -123,7 +123,7 @@ module _ (W : CallLaws) (K : LockLaws) {base : Base} {h : History} {asks : Asks}
     stay : (x : Cell) → IsStored cells x → IsStored cells' x
     stay x stored = subst (λ s. IsStored s x) (sym made.cells) (put-stays W.setting cells writes x stored)
 
-    abbrev new : Logged
+    abbrev new : LogRecord
     new = record { stamp = k; undo = made.undo }
 
     takes : TakesBack entry new
@@ -175,7 +175,7 @@ module _ (W : CallLaws) (K : LockLaws) {base : Base} {h : History} {asks : Asks}
           let was = core.ready u alive in
           record { locks = ap (λ s. set.contains s u) made.granted.opened ∙ was.locks; log = made.open_still u ∙ was.log; sub = ap (λ m. finite.get m u) subs ∙ was.sub };
       waiting = waiting;
-      accounted = subst (IsAccounted (is_locked table') (is_let_go table')) acted (granted-accounted W K cells table table' a t accesses core.kept.sound is_free touched made.granted core.accounted);
+      accounted = subst (IsAccounted (is_locked table') (is_released table')) acted (granted-accounted W K cells table table' a t accesses core.kept.sound is_free touched made.granted core.accounted);
       within = still-within base forest forest j j' refl calls core.within;
       bare = λ e. happened e;
     }

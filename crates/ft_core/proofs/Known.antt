@@ -15,10 +15,10 @@ use Rattle.ft_posix.proofs.Setting.{setting}
 use Rattle.ft_posix.proofs.SoundPlaces.{placed}
 use Rattle.ft_posix.proofs.WholeRuns.{runs}
 use Rattle.ft_posix.specs.Posix.{posix_calls}
-use Rattle.ft_moss.proofs.Above.{holder_law}
-use Rattle.ft_moss.proofs.Following.{abort_law, alone_law, begin_law, block_law, commit_law, cover_law, first_law, foreign_law, grant_law, owner_law, release_law, undo_law}
-use Rattle.ft_moss.proofs.Knowing.{known_law}
-use Rattle.ft_moss.proofs.Tables.{cell_locked}
+use Rattle.ft_lock_rules.proofs.Above.{holder_law}
+use Rattle.ft_lock_rules.proofs.Following.{abort_law, alone_law, begin_law, block_law, commit_law, cover_law, first_law, foreign_law, grant_law, owner_law, release_law, undo_law}
+use Rattle.ft_lock_rules.proofs.Knowing.{known_law}
+use Rattle.ft_lock_rules.proofs.Tables.{cell_locked}
 use Rattle.ft_core.specs.Laws.{CallLaws, LockLaws}
 
 pub lawful_calls : Lawful posix_calls

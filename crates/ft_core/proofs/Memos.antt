@@ -23,7 +23,7 @@ use Rattle.ft_posix.specs.declared.intent.Edit.{Edit}
 use Rattle.ft_posix.specs.declared.intent.Edit.TheVariants.{Entry as EntryEdit, Parent as ParentEdit, Links as LinksEdit, Overwrite, Resize, Open, DirAttributes, FileAttributes, Time}
 use Rattle.ft_posix.specs.Outcomes.{Write}
 use Rattle.ft_posix.specs.Stored.{put, put_all}
-use Rattle.ft_moss.specs.Locks.{LockTable}
+use Rattle.ft_lock_rules.specs.Locks.{LockTable}
 use Rattle.ft_core.specs.declared.memo.Memo.{Memo}
 use Rattle.ft_core.specs.Memos.{IsTrueOf, StandElsewhere, AreElsewhere}
 

@@ -6,11 +6,11 @@ use Rattle.std.specs.Cmp.{nat_cmp_total, unsigned_tied}
 use Rattle.std.specs.FinMap as finite
 use Rattle.std.specs.FinSet as set
 use Rattle.ft_history.proofs.Words.{put_other}
-use Rattle.ft_base.specs.Chains.{Lists}
+use Rattle.ft_base.specs.OwnedLists.{Lists}
 use Rattle.ft_history.specs.Logs.{put}
-use Rattle.ft_undo.specs.declared.logs.Logged.{Logged}
+use Rattle.ft_undo.specs.declared.logs.LogRecord.{LogRecord}
 use Rattle.ft_undo.specs.Logs.{is_open, AreOpen}
-use Rattle.ft_moss.specs.Locks.{LockTable, is_opened}
+use Rattle.ft_lock_rules.specs.Locks.{LockTable, is_opened}
 
 module _ {X : Type 0} (m : finite.FinMap nat_cmp X) (n : ℕ) where
   pub inserted-same : (v : X) (t : ℕ) → t ≡ n → finite.get (finite.insert m n v) t ≡ Some v
@@ -31,5 +31,5 @@ opened-other old new n is t ne e =
     ap (λ s. set.contains s t) is ∙ set.contains-remove nat_cmp_total old.opened n t
     ∙ and_from (not (eq_by_cmp nat_cmp t n)) (is_opened old t) (ap not (unsigned_tied t n ∙ ne_eqb t n ne)) e
 
-pub open-other : (old new : Lists Logged) (n : ℕ) → AreOpen new (put (is_open old) n false) → (t : ℕ) → t ≢ n → is_open old t ≡ true → is_open new t ≡ true
+pub open-other : (old new : Lists LogRecord) (n : ℕ) → AreOpen new (put (is_open old) n false) → (t : ℕ) → t ≢ n → is_open old t ≡ true → is_open new t ≡ true
 open-other old new n are t ne e = are t ∙ put_other (is_open old) n false t ne ∙ e

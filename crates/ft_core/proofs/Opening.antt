@@ -5,10 +5,10 @@ use Rattle.std.specs.Ordering.{nat_cmp, eq_by_cmp}
 use Rattle.std.specs.Cmp.{nat_cmp_total, unsigned_tied}
 use Rattle.std.specs.FinMap as finite
 use Rattle.std.specs.FinSet as set
-use Rattle.ft_base.specs.Chains.{Lists, list_in}
-use Rattle.ft_undo.specs.declared.logs.Logged.{Logged}
+use Rattle.ft_base.specs.OwnedLists.{Lists, list_in}
+use Rattle.ft_undo.specs.declared.logs.LogRecord.{LogRecord}
 use Rattle.ft_undo.specs.Logs.{is_open, AreLists, AreOpen}
-use Rattle.ft_moss.specs.Locks.{LockTable, is_opened}
+use Rattle.ft_lock_rules.specs.Locks.{LockTable, is_opened}
 use Rattle.ft_history.specs.Logs.{put}
 use Rattle.ft_history.proofs.Words.{put_same, put_other, by_number}
 use Rattle.ft_core.specs.Journals.{Journaled}
@@ -29,7 +29,7 @@ open-other old new n is t e = ap (λ x. is_opened x t) is ∙ set.contains-inser
 open-same : (old new : LockTable) (n : ℕ) → new ≡ record old { opened = set.insert old.opened n } → is_opened new n ≡ true
 open-same old new n is = ap (λ x. is_opened x n) is ∙ set.contains-insert nat_cmp_total old.opened n n ∙ or_left (eq_by_cmp nat_cmp n n) (is_opened old n) (unsigned_tied n n ∙ eq-eqb n n refl)
 
-pub logs-other : (old new : Lists Logged) (n : ℕ) → AreOpen new (put (is_open old) n true) → (t : ℕ) → is_open old t ≡ true → is_open new t ≡ true
+pub logs-other : (old new : Lists LogRecord) (n : ℕ) → AreOpen new (put (is_open old) n true) → (t : ℕ) → is_open old t ≡ true → is_open new t ≡ true
 logs-other old new n are t e = are t ∙ by_number t n (λ is. put_same (is_open old) n true t is) (λ ne. put_other (is_open old) n true t ne ∙ e)
 
 -- what differs in one place is what it is with this one as it is
@@ -43,7 +43,7 @@ locks-same old new is = is ∙ (λ i. record old { opened = (sym is i).opened })
 pub locks-opened : (old new : LockTable) (n : ℕ) → new ≡ record old { opened = set.insert old.opened n } → new ≡ record old { opened = new.opened }
 locks-opened old new n is = is ∙ (λ i. record old { opened = (sym is i).opened })
 
-pub one-noted : (j j' : Journaled) (table table' : LockTable) (lists lists' : Lists Logged) (n : ℕ) → j' ≡ record j { subs = finite.insert j.subs n None }
+pub one-noted : (j j' : Journaled) (table table' : LockTable) (lists lists' : Lists LogRecord) (n : ℕ) → j' ≡ record j { subs = finite.insert j.subs n None }
     → table' ≡ record table { opened = table'.opened } → ((t : ℕ) → is_opened table t ≡ true → is_opened table' t ≡ true) → AreLists lists' (list_in lists) → ((t : ℕ) → is_open lists t ≡ true → is_open lists' t ≡ true)
     → AreAsBefore j j' table table' lists lists' n
 one-noted j j' table table' lists lists' n is locks opened listed still = record {
@@ -55,7 +55,7 @@ one-noted j j' table table' lists lists' n is locks opened listed still = record
   open_still = still;
 }
 
-pub ready-noted : (j j' : Journaled) (table table' : LockTable) (lists lists' : Lists Logged) (n : ℕ) → j' ≡ record j { subs = finite.insert j.subs n None } → table' ≡ record table { opened = set.insert table.opened n } → AreOpen lists' (put (is_open lists) n true) → IsOpenFor j' table' lists' n
+pub ready-noted : (j j' : Journaled) (table table' : LockTable) (lists lists' : Lists LogRecord) (n : ℕ) → j' ≡ record j { subs = finite.insert j.subs n None } → table' ≡ record table { opened = set.insert table.opened n } → AreOpen lists' (put (is_open lists) n true) → IsOpenFor j' table' lists' n
 ready-noted j j' table table' lists lists' n is opened are = record {
   sub = ap (λ (q : Journaled). finite.get q.subs n) is ∙ noted-same j.subs n None n refl;
   locks = open-same table table' n opened;

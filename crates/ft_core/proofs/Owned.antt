@@ -1,19 +1,19 @@
 -- What an owned call wrote, its owner has locked.
 use Rattle.std.proofs.Common.{◌≡◌, ℕ, true, Some, inl, inr, refl, subst, ◌∙◌}
 use Rattle.std.proofs.lemmas.Bool.{or_cases}
-use Rattle.ft_base.specs.Chains.{Lists}
+use Rattle.ft_base.specs.OwnedLists.{Lists}
 use Rattle.ft_laws.specs.Lists.{In}
 use Rattle.ft_cells.specs.declared.cell.Cell.{Cell}
 use Rattle.ft_cells.specs.Cells.{Cells}
 use Rattle.ft_posix.specs.declared.call.Mode.TheVariants.{Write as WriteMode}
 use Rattle.ft_posix.specs.Posix.{posix_calls}
 use Rattle.ft_posix.specs.RunLaws.{writes_cell}
-use Rattle.ft_undo.specs.declared.logs.Logged.{Logged}
+use Rattle.ft_undo.specs.declared.logs.LogRecord.{LogRecord}
 use Rattle.ft_forest.specs.Transactions.{Transactions}
-use Rattle.ft_moss.specs.declared.line.LockKind.{LockKind}
-use Rattle.ft_moss.specs.declared.line.LockKind.TheVariants.{Held, Retained}
-use Rattle.ft_moss.specs.declared.line.LockLine.{LockLine}
-use Rattle.ft_moss.specs.Locks.{LockTable, is_locked, has_lock}
+use Rattle.ft_lock_rules.specs.declared.line.LockKind.{LockKind}
+use Rattle.ft_lock_rules.specs.declared.line.LockKind.TheVariants.{Held, Retained}
+use Rattle.ft_lock_rules.specs.declared.line.LockLine.{LockLine}
+use Rattle.ft_lock_rules.specs.Locks.{LockTable, is_locked, has_lock}
 use Rattle.ft_history.specs.History.{Base as HistoryBase, standing}
 use Rattle.ft_history.specs.Locks.{holds_lock, retains_lock}
 use Rattle.ft_history.proofs.Words.{In-map}
@@ -30,7 +30,7 @@ use Rattle.ft_core.proofs.Joining.{start, past}
 abbrev pub write_line : ℕ → Cell → LockKind → LockLine
 write_line t c kind = record { cell = c; owner = t; mode = WriteMode; kind = kind }
 
-module _ (W : CallLaws) (K : LockLaws) {base : Base} {h : History} {asks : Asks} {last_txn last_number : ℕ} {cells : Cells} {forest : Transactions} {table : LockTable} {lists : Lists Logged} {j : Journaled} (core : IsCoreAt base h asks last_txn last_number cells forest table lists j) where
+module _ (W : CallLaws) (K : LockLaws) {base : Base} {h : History} {asks : Asks} {last_txn last_number : ℕ} {cells : Cells} {forest : Transactions} {table : LockTable} {lists : Lists LogRecord} {j : Journaled} (core : IsCoreAt base h asks last_txn last_number cells forest table lists j) where
   abbrev from : HistoryBase posix_calls
   from = start W core.kept
 

@@ -15,7 +15,7 @@ use Rattle.ft_posix.specs.Outcomes.{Write}
 use Rattle.ft_posix.specs.Posix.{posix, posix_calls}
 use Rattle.ft_posix.specs.RunLaws.{HasNamedPlaces}
 use Rattle.ft_posix.specs.Stored.{put_all}
-use Rattle.ft_undo.specs.declared.logs.Logged.{Logged}
+use Rattle.ft_undo.specs.declared.logs.LogRecord.{LogRecord}
 use Rattle.ft_undo.specs.Undone.{given_back, CanGiveAllBack}
 use Rattle.ft_core.specs.Kept.{Change, Item, ArePlaced, TakesBack, file_is_stored}
 
@@ -24,7 +24,7 @@ pub write-put : (ws : List Write) (cells : Cells) → write_all posix cells ws �
 write-put [] cells = refl
 write-put (w ∷ ws) cells = write-put ws (set_cell cells w.cell w.value)
 
-pub put-back : (cells : Cells) (e : Item) (x : Logged) → TakesBack e x → put_all cells (map given_back x.undo) ≡ posix_calls.revert cells e.inverse
+pub put-back : (cells : Cells) (e : Item) (x : LogRecord) → TakesBack e x → put_all cells (map given_back x.undo) ≡ posix_calls.revert cells e.inverse
 put-back cells e x takes = sym (write-put (map given_back x.undo) cells) ∙ ap (write_all posix cells) takes.same
 
 -- all places are there that were
@@ -92,13 +92,13 @@ module _ (setting : SettingLaw) where
       })
 
   -- One call is taken back, where its inverse may be put to the cells.
-  pub record IsTakenBack (cells : Cells) (e : Item) (x : Logged) : Type 0 where
+  pub record IsTakenBack (cells : Cells) (e : Item) (x : LogRecord) : Type 0 where
     pub can : CanGiveAllBack cells x.undo
     pub made : put_all cells (map given_back x.undo) ≡ posix_calls.revert cells e.inverse
     pub stay : StayPlaces cells (put_all cells (map given_back x.undo))
     pub named : HasNamedPlaces (put_all cells (map given_back x.undo))
 
-  pub is_taken_back : (cells : Cells) (e : Item) (x : Logged) → TakesBack e x → ArePlaced cells e → HasNamedPlaces cells → posix_calls.MayRevert cells e.inverse → IsTakenBack cells e x
+  pub is_taken_back : (cells : Cells) (e : Item) (x : LogRecord) → TakesBack e x → ArePlaced cells e → HasNamedPlaces cells → posix_calls.MayRevert cells e.inverse → IsTakenBack cells e x
   is_taken_back cells e x takes placed named may =
       let made = put-back cells e x takes in
       record {

@@ -4,15 +4,15 @@ use Rattle.std.proofs.lemmas.Bool.{false≢true}
 use Rattle.std.specs.Result.{is_err, OnOk}
 use Rattle.std.proofs.lemmas.List.{take-append-drop}
 use Rattle.std.proofs.lemmas.List.Folds.{list_any-append}
-use Rattle.ft_base.specs.Chains.{Lists}
+use Rattle.ft_base.specs.OwnedLists.{Lists}
 use Rattle.ft_cells.specs.Cells.{Cells}
 use Rattle.ft_cells.specs.declared.cell.Cell.{Cell}
 use Rattle.ft_cells.specs.CellOrder.{same_cell}
 use Rattle.ft_posix.specs.declared.call.Access.{Access}
 use Rattle.ft_posix.specs.declared.call.Mode.{Mode}
-use Rattle.ft_undo.specs.declared.logs.Logged.{Logged}
+use Rattle.ft_undo.specs.declared.logs.LogRecord.{LogRecord}
 use Rattle.ft_forest.specs.Transactions.{Transactions}
-use Rattle.ft_moss.specs.Locks.{LockTable, has_lock, is_let_go, is_held, same_mode, has_access, is_accessed, AreGranted}
+use Rattle.ft_lock_rules.specs.Locks.{LockTable, has_lock, is_released, is_held, same_mode, has_access, is_accessed, AreGranted}
 use Rattle.ft_core.specs.Histories.{History}
 use Rattle.ft_core.specs.States.{Base, Asks}
 use Rattle.ft_core.specs.Journals.{Journaled}
@@ -23,7 +23,7 @@ use Rattle.ft_core.proofs.Children.{no-child}
 use Rattle.ft_core.proofs.Joining.{start, values}
 
 -- the locks of a core are so
-pub alone-there : CallLaws → LockLaws → {base : Base} {h : History} {asks : Asks} {last_txn last_number : ℕ} {cells : Cells} {forest : Transactions} {table : LockTable} {lists : Lists Logged} {j : Journaled}
+pub alone-there : CallLaws → LockLaws → {base : Base} {h : History} {asks : Asks} {last_txn last_number : ℕ} {cells : Cells} {forest : Transactions} {table : LockTable} {lists : Lists LogRecord} {j : Journaled}
     → IsCoreAt base h asks last_txn last_number cells forest table lists j → (t : ℕ) → IsAloneIfChildless table forest t
 alone-there W K {h = h} {forest = forest} {table = table} core t none =
     K.alone (start W core.kept) (values W core.kept) h table core.locks core.kept.core.legal forest core.transactions.parents t
@@ -36,10 +36,10 @@ granted-rest old new t xs k before now = record {
       now.lines l
       ∙ both-lines (has_lock old l) (is_held l.kind) (l.owner == t) (has_access (take k xs) l.cell l.mode) (has_access (drop k xs) l.cell l.mode) (before.lines l)
       ∙ ap (λ b. has_lock old l || (is_held l.kind && (l.owner == t) && b)) (accesses-split l.cell l.mode);
-  let_go = λ c.
-      now.let_go c
-      ∙ both-cells (is_let_go old c) (is_accessed (take k xs) c) (is_accessed (drop k xs) c) (before.let_go c)
-      ∙ ap (λ b. is_let_go old c && not b) (accessed-split c);
+  released_cells = λ c.
+      now.released_cells c
+      ∙ both-cells (is_released old c) (is_accessed (take k xs) c) (is_accessed (drop k xs) c) (before.released_cells c)
+      ∙ ap (λ b. is_released old c && not b) (accessed-split c);
   opened = now.opened;
 }
   where

@@ -5,7 +5,7 @@ use Rattle.std.proofs.lemmas.Option.{none-some}
 use Rattle.std.proofs.lemmas.Bool.{false≢true, and_parts, or_right, leb-false, lt-leb, lt-ltb}
 use Rattle.std.specs.FinMap as finite
 use Rattle.std.specs.FinSet as set
-use Rattle.ft_base.specs.Chains.{Lists}
+use Rattle.ft_base.specs.OwnedLists.{Lists}
 use Rattle.ft_laws.specs.Lists.{In}
 use Rattle.ft_laws.specs.Laws.{is_hidden, holds}
 use Rattle.ft_laws.specs.Runs.{Along}
@@ -20,9 +20,9 @@ use Rattle.ft_tree.specs.Sweep.{IsSwept, is_dropped, HasNoneToDrop}
 use Rattle.ft_tree.proofs.Sweeps.{swept-dir_attributes}
 use Rattle.ft_posix.specs.Posix.{HasSoundValues, file_of, names_file, posix_calls}
 use Rattle.ft_posix.specs.RunLaws.{writes_cell}
-use Rattle.ft_undo.specs.declared.logs.Logged.{Logged}
+use Rattle.ft_undo.specs.declared.logs.LogRecord.{LogRecord}
 use Rattle.ft_forest.specs.Transactions.{Transactions}
-use Rattle.ft_moss.specs.Locks.{LockTable, is_locked}
+use Rattle.ft_lock_rules.specs.Locks.{LockTable, is_locked}
 use Rattle.ft_history.specs.History.{Base as HistoryBase, Fate, fate, IsLive, over, standing}
 use Rattle.ft_history.specs.Locks.{owns_lock}
 use Rattle.ft_history.specs.Core.{AreInverses, IsSweep, IsCore}
@@ -94,7 +94,7 @@ never-live first h e x live = none_fate (sym (unborn first x) ∙ ap (λ (k : Hi
     none_fate : {f : Fate} → None ≡ Some f → ⊥
     none_fate e = cc
 
-module _ (W : CallLaws) (K : LockLaws) {base : Base} {h : History} {asks : Asks} {last_txn last_number : ℕ} {cells : Cells} {forest : Transactions} {table : LockTable} {lists : Lists Logged} {j : Journaled} (core : IsCoreAt base h asks last_txn last_number cells forest table lists j) (new : Cells) (swept : IsSwept (is_locked table) cells new) (none_left : HasNoneToDrop (is_locked table) new) (sound' : AreSoundCells new) where
+module _ (W : CallLaws) (K : LockLaws) {base : Base} {h : History} {asks : Asks} {last_txn last_number : ℕ} {cells : Cells} {forest : Transactions} {table : LockTable} {lists : Lists LogRecord} {j : Journaled} (core : IsCoreAt base h asks last_txn last_number cells forest table lists j) (new : Cells) (swept : IsSwept (is_locked table) cells new) (none_left : HasNoneToDrop (is_locked table) new) (sound' : AreSoundCells new) where
   abbrev from : HistoryBase posix_calls
   from = start W core.kept
 

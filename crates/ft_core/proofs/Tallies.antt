@@ -3,17 +3,17 @@ use Rattle.std.proofs.Common.{◌≡◌, ◌≢◌, ◌<◌, ◌≤◌, ◌+◌,
 use Rattle.std.specs.Prelude.{nat_lt}
 use Rattle.std.proofs.lemmas.Bool.{lt-ltb}
 use Rattle.std.proofs.lemmas.List.{length-map}
-use Rattle.ft_base.specs.Chains.{Lists, list_in}
+use Rattle.ft_base.specs.OwnedLists.{Lists, list_in}
 use Rattle.ft_laws.specs.Lists.{In}
 use Rattle.ft_laws.proofs.Lists.{Each-map, Each-from, Pairs-map}
 use Rattle.ft_laws.proofs.Tests.{by_test}
 use Rattle.ft_cells.specs.Cells.{Cells}
 use Rattle.ft_posix.specs.Posix.{posix_calls}
-use Rattle.ft_undo.specs.declared.logs.Logged.{Logged}
+use Rattle.ft_undo.specs.declared.logs.LogRecord.{LogRecord}
 use Rattle.ft_forest.specs.declared.state.State.TheVariants.{Live as LiveState, Aborted as AbortedState}
 use Rattle.ft_forest.specs.Transactions.{Transactions, state_in, is_live as is_live_in, HasEnded}
 use Rattle.ft_forest.proofs.Counting.{child-of}
-use Rattle.ft_moss.specs.Locks.{LockTable}
+use Rattle.ft_lock_rules.specs.Locks.{LockTable}
 use Rattle.ft_history.specs.Forest.{is_some_and}
 use Rattle.ft_history.specs.History.{number, last_transaction, begun, fate, is_live, IsLive, over, owner_of, grants, is_standing, standing}
 use Rattle.ft_history.specs.Ledger.{lists as lists_of}
@@ -48,7 +48,7 @@ pub record AreEnded (h : History) (t : ℕ) (old now : Transactions) (n : ℕ) :
 pub none-ended : (h : History) (t : ℕ) (old : Transactions) → AreEnded h t old old 0
 none-ended h t old = record { count = omega arith; few = omega arith }
 
-module _ (W : CallLaws) {base : Base} {h : History} {asks : Asks} {last_txn last_number : ℕ} {cells : Cells} {forest : Transactions} {table : LockTable} {lists : Lists Logged} {j : Journaled} (core : IsCoreAt base h asks last_txn last_number cells forest table lists j) (t : ℕ) where
+module _ (W : CallLaws) {base : Base} {h : History} {asks : Asks} {last_txn last_number : ℕ} {cells : Cells} {forest : Transactions} {table : LockTable} {lists : Lists LogRecord} {j : Journaled} (core : IsCoreAt base h asks last_txn last_number cells forest table lists j) (t : ℕ) where
   sound : Sound posix_calls W.lawful (start W core.kept) h
   sound = past W core.kept
 
@@ -113,7 +113,7 @@ module _ (W : CallLaws) {base : Base} {h : History} {asks : Asks} {last_txn last
 
   -- The list of a transaction is as long as it owns calls.
 
-  as-long : (es : List Item) (xs : List Logged) → AreLogged es xs → length xs ≡ length es
+  as-long : (es : List Item) (xs : List LogRecord) → AreLogged es xs → length xs ≡ length es
   as-long [] [] h = refl
   as-long [] (x ∷ xs) h = absurd h
   as-long (e ∷ es) [] h = absurd h

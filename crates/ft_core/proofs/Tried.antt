@@ -16,14 +16,14 @@ use Rattle.ft_posix.specs.CellLaws.{SettingLaw}
 use Rattle.ft_posix.specs.declared.call.Access.{Access}
 use Rattle.ft_posix.specs.declared.intent.Edit.{Edit}
 use Rattle.ft_posix.specs.declared.intent.Edit.TheVariants.{Entry, Parent, Links, Overwrite, Resize, Open, DirAttributes, FileAttributes, Time}
-use Rattle.ft_posix.specs.Comes.{writes_of}
+use Rattle.ft_posix.specs.Computes.{writes_of}
 use Rattle.ft_posix.specs.Outcomes.{Write}
 use Rattle.ft_posix.specs.Besides.{AreAlikeBut, reads_of}
 use Rattle.ft_forest.specs.Transactions.{Transactions}
-use Rattle.ft_moss.specs.declared.rule.Rule.{Rule}
-use Rattle.ft_moss.specs.Rules.{is_strict}
-use Rattle.ft_moss.specs.Locks.{LockTable, AreGranted, AreBlockers}
-use Rattle.ft_moss.specs.Surveys.{HasItsCellsAlone, HasNoHolderAbove}
+use Rattle.ft_lock_rules.specs.declared.rule.Rule.{Rule}
+use Rattle.ft_lock_rules.specs.Rules.{is_strict}
+use Rattle.ft_lock_rules.specs.Locks.{LockTable, AreGranted, AreBlockers}
+use Rattle.ft_lock_rules.specs.Surveys.{HasItsCellsAlone, HasNoHolderAbove}
 use Rattle.ft_core.specs.declared.memo.Memo.{Memo}
 use Rattle.ft_core.specs.declared.parts.Parts.{Parts}
 use Rattle.ft_core.specs.Makes.{IsMadeOn, IsUnmade}

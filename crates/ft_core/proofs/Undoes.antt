@@ -2,7 +2,7 @@
 use Rattle.std.proofs.Common.{◌≡◌, ◌<◌, ◌≤◌, ℕ, List, [], ◌∷◌, Option, Some, None, inl, inr, map, arith, refl, sym, ap, subst, ◌∙◌}
 use Rattle.std.specs.Option.{option_map, option_flatten}
 use Rattle.std.specs.FinMap as finite
-use Rattle.ft_base.specs.Chains.{Lists, list_in}
+use Rattle.ft_base.specs.OwnedLists.{Lists, list_in}
 use Rattle.ft_laws.specs.Lists.{In}
 use Rattle.ft_cells.specs.Cells.{Cells}
 use Rattle.ft_tree.specs.Sound.{AreSoundCells}
@@ -10,12 +10,12 @@ use Rattle.ft_tree.specs.Sweep.{IsAccounted}
 use Rattle.ft_posix.specs.Posix.{posix_calls}
 use Rattle.ft_posix.specs.RunLaws.{HasNamedPlaces}
 use Rattle.ft_posix.specs.Stored.{put_all}
-use Rattle.ft_undo.specs.declared.logs.Logged.{Logged}
+use Rattle.ft_undo.specs.declared.logs.LogRecord.{LogRecord}
 use Rattle.ft_undo.specs.Logs.{is_open, newest_of, AreLists, AreOpen}
 use Rattle.ft_undo.specs.Undone.{given_back, CanGiveAllBack}
 use Rattle.ft_forest.specs.Transactions.{Transactions, IsLiveChild}
-use Rattle.ft_moss.specs.Locks.{LockTable, is_locked, is_let_go}
-use Rattle.ft_moss.specs.Rules.{is_strict}
+use Rattle.ft_lock_rules.specs.Locks.{LockTable, is_locked, is_released}
+use Rattle.ft_lock_rules.specs.Rules.{is_strict}
 use Rattle.ft_history.specs.Core.{IsCore}
 use Rattle.ft_history.specs.History.{Base as HistoryBase, IsLive}
 use Rattle.ft_history.specs.History.Event.{Undo as WasUndone}
@@ -45,12 +45,12 @@ use Rattle.ft_core.proofs.Joining.{start, values}
 use Rattle.ft_core.proofs.Owned.{written-locked}
 use Rattle.ft_core.proofs.Reverting.{placed-stays, is_taken_back}
 
-module _ (W : CallLaws) (K : LockLaws) {base : Base} {h : History} {asks : Asks} {last_txn last_number : ℕ} {cells : Cells} {forest : Transactions} {table : LockTable} {lists : Lists Logged} {j : Journaled} (core : IsCoreAt base h asks last_txn last_number cells forest table lists j) (t : ℕ) (live : IsLive posix_calls base.last_txn h t) where
+module _ (W : CallLaws) (K : LockLaws) {base : Base} {h : History} {asks : Asks} {last_txn last_number : ℕ} {cells : Cells} {forest : Transactions} {table : LockTable} {lists : Lists LogRecord} {j : Journaled} (core : IsCoreAt base h asks last_txn last_number cells forest table lists j) (t : ℕ) (live : IsLive posix_calls base.last_txn h t) where
   abbrev from : HistoryBase posix_calls
   from = start W core.kept
 
   -- the history's list and the logs' have the same newest
-  pub record AreNewest (x : Logged) (xs : List Logged) : Type 0 where
+  pub record AreNewest (x : LogRecord) (xs : List LogRecord) : Type 0 where
     pub entry : Item
     pub rest : List Item
     pub log : core.log t ≡ entry ∷ rest
@@ -58,7 +58,7 @@ module _ (W : CallLaws) (K : LockLaws) {base : Base} {h : History} {asks : Asks}
     pub more : AreLogged rest xs
     pub listed : lists_of posix_calls h t ≡ entry.done ∷ map (λ (e : Item). e.done) rest
 
-  newest : (x : Logged) (xs : List Logged) → list_in lists t ≡ x ∷ xs → AreNewest x xs
+  newest : (x : LogRecord) (xs : List LogRecord) → list_in lists t ≡ x ∷ xs → AreNewest x xs
   newest x xs is =
       let logged : AreLogged (core.log t) (x ∷ xs) = subst (AreLogged (core.log t)) is (core.logs.logged t) in
       by_list (core.log t)
@@ -82,14 +82,14 @@ module _ (W : CallLaws) (K : LockLaws) {base : Base} {h : History} {asks : Asks}
 
   -- What an undo comes upon, by the newest of the list and the last commit of a child.
 
-  pub target-found : (x : Logged) (xs : List Logged) → list_in lists t ≡ x ∷ xs → ((k : ℕ) → last_sub posix_calls base.last_stamp h t ≡ Some k → k < x.stamp) → (d : Granted) × (undo_target posix_calls h t ≡ Found d) × (d.call.stamp ≡ x.stamp)
+  pub target-found : (x : LogRecord) (xs : List LogRecord) → list_in lists t ≡ x ∷ xs → ((k : ℕ) → last_sub posix_calls base.last_stamp h t ≡ Some k → k < x.stamp) → (d : Granted) × (undo_target posix_calls h t ≡ Found d) × (d.call.stamp ≡ x.stamp)
   target-found x xs is later =
       let law = target_by_stamps posix_calls W.lawful from (values W core.kept) h core.kept.core.legal t live in
       let new = newest x xs is in
       let stamp = new.takes.stamp in
       (new.entry.done, law.found new.entry.done (map (λ (e : Item). e.done) new.rest) new.listed (λ k e. let lt = later k e in omega arith), sym stamp)
 
-  pub target-since : (k : ℕ) → last_sub posix_calls base.last_stamp h t ≡ Some k → ((x : Logged) (xs : List Logged) → list_in lists t ≡ x ∷ xs → x.stamp ≤ k) → undo_target posix_calls h t ≡ SubSince
+  pub target-since : (k : ℕ) → last_sub posix_calls base.last_stamp h t ≡ Some k → ((x : LogRecord) (xs : List LogRecord) → list_in lists t ≡ x ∷ xs → x.stamp ≤ k) → undo_target posix_calls h t ≡ SubSince
   target-since k e old =
       let law = target_by_stamps posix_calls W.lawful from (values W core.kept) h core.kept.core.legal t live in
       law.since k e (λ d ds listed. by_list (list_in lists t)
@@ -111,35 +111,35 @@ module _ (W : CallLaws) (K : LockLaws) {base : Base} {h : History} {asks : Asks}
   pub mark-is : (m : Option ℕ) → m ≡ sub_in j t → m ≡ last_sub posix_calls base.last_stamp h t
   mark-is m e = e ∙ ap option_flatten (core.ready t live).sub
 
-  pub told-nothing : (k m : Option ℕ) → k ≡ option_map (λ (x : Logged). x.stamp) (newest_of (list_in lists t)) → k ≡ None → m ≡ sub_in j t → m ≡ None → fault_of_target (undo_target posix_calls h t) ≡ Some NothingToUndo
+  pub told-nothing : (k m : Option ℕ) → k ≡ option_map (λ (x : LogRecord). x.stamp) (newest_of (list_in lists t)) → k ≡ None → m ≡ sub_in j t → m ≡ None → fault_of_target (undo_target posix_calls h t) ≡ Some NothingToUndo
   told-nothing k m first none mark no_mark = ap fault_of_target (target-nothing (sym (mark-is m mark) ∙ no_mark) (empty (list_in lists t) (sym first ∙ none)))
     where
-      empty : (xs : List Logged) → option_map (λ (x : Logged). x.stamp) (newest_of xs) ≡ None → xs ≡ []
+      empty : (xs : List LogRecord) → option_map (λ (x : LogRecord). x.stamp) (newest_of xs) ≡ None → xs ≡ []
       empty [] e = refl
       empty (x ∷ xs) e = absurd (cc)
 
-  stamped : (n : ℕ) (xs : List Logged) → option_map (λ (x : Logged). x.stamp) (newest_of xs) ≡ Some n → (x : Logged) × (ys : List Logged) × (xs ≡ x ∷ ys) × (x.stamp ≡ n)
+  stamped : (n : ℕ) (xs : List LogRecord) → option_map (λ (x : LogRecord). x.stamp) (newest_of xs) ≡ Some n → (x : LogRecord) × (ys : List LogRecord) × (xs ≡ x ∷ ys) × (x.stamp ≡ n)
   stamped n [] e = absurd (cc)
   stamped n (x ∷ xs) e = (x, xs, refl, same_some x.stamp n e)
 
-  pub told-found : (k m : Option ℕ) (n : ℕ) → k ≡ option_map (λ (x : Logged). x.stamp) (newest_of (list_in lists t)) → k ≡ Some n → m ≡ sub_in j t → ((q : ℕ) → m ≡ Some q → q < n) → (d : Granted) × (undo_target posix_calls h t ≡ Found d) × (d.call.stamp ≡ n)
+  pub told-found : (k m : Option ℕ) (n : ℕ) → k ≡ option_map (λ (x : LogRecord). x.stamp) (newest_of (list_in lists t)) → k ≡ Some n → m ≡ sub_in j t → ((q : ℕ) → m ≡ Some q → q < n) → (d : Granted) × (undo_target posix_calls h t ≡ Found d) × (d.call.stamp ≡ n)
   told-found k m n first some mark later =
       let x = stamped n (list_in lists t) (sym first ∙ some) in
       let same = x.3 in
       let found = target-found x.0 x.1 x.2 (λ q e. let lt = later q (mark-is m mark ∙ e) in omega arith) in
       (found.0, found.1, found.2 ∙ x.3)
 
-  pub told-since : (k m : Option ℕ) (q : ℕ) → k ≡ option_map (λ (x : Logged). x.stamp) (newest_of (list_in lists t)) → m ≡ sub_in j t → m ≡ Some q → ((n : ℕ) → k ≡ Some n → n ≤ q) → fault_of_target (undo_target posix_calls h t) ≡ Some SubSinceFault
-  told-since k m q first mark some old = ap fault_of_target (target-since q (sym (mark-is m mark) ∙ some) (λ x xs e. old x.stamp (first ∙ ap (λ ys. option_map (λ (x : Logged). x.stamp) (newest_of ys)) e)))
+  pub told-since : (k m : Option ℕ) (q : ℕ) → k ≡ option_map (λ (x : LogRecord). x.stamp) (newest_of (list_in lists t)) → m ≡ sub_in j t → m ≡ Some q → ((n : ℕ) → k ≡ Some n → n ≤ q) → fault_of_target (undo_target posix_calls h t) ≡ Some SubSinceFault
+  told-since k m q first mark some old = ap fault_of_target (target-since q (sym (mark-is m mark) ∙ some) (λ x xs e. old x.stamp (first ∙ ap (λ ys. option_map (λ (x : LogRecord). x.stamp) (newest_of ys)) e)))
 
   -- The newest of the list can be taken back, and then the core is that of the history with the
   -- undo.
   pub record Undoes (d : Granted) : Type 0 where
-    pub newest : Logged
-    pub rest : List Logged
+    pub newest : LogRecord
+    pub rest : List LogRecord
     pub list : list_in lists t ≡ newest ∷ rest
     pub can : CanGiveAllBack cells newest.undo
-    pub after : (cells' : Cells) → cells' ≡ put_all cells (map given_back newest.undo) → (lists' : Lists Logged) → AreLists lists' (put (list_in lists) t rest) → AreOpen lists' (is_open lists) → (j' : Journaled) → j' ≡ with_event j (Undo d.call.stamp)
+    pub after : (cells' : Cells) → cells' ≡ put_all cells (map given_back newest.undo) → (lists' : Lists LogRecord) → AreLists lists' (put (list_in lists) t rest) → AreOpen lists' (is_open lists) → (j' : Journaled) → j' ≡ with_event j (Undo d.call.stamp)
         → IsCoreAt base (WasUndone d.call.stamp ∷ h) asks last_txn last_number cells' forest table lists' j'
 
   pub core-undo : ((x : ℕ) → IsLiveChild forest t x → ⊥) → (d : Granted) → undo_target posix_calls h t ≡ Found d → Undoes d
@@ -180,7 +180,7 @@ module _ (W : CallLaws) (K : LockLaws) {base : Base} {h : History} {asks : Asks}
               };
               ready = λ u now. let was = core.ready u now in record { locks = was.locks; log = opened u ∙ was.log; sub = ap (λ (q : Journaled). finite.get q.subs u) told ∙ was.sub };
               waiting = core.waiting;
-              accounted = subst (IsAccounted (is_locked table) (is_let_go table)) (sym reverted)
+              accounted = subst (IsAccounted (is_locked table) (is_released table)) (sym reverted)
                   (reverted-accounted W cells e (core.logs.placed t e there).own table (written-locked W K core t e there) loses (subst AreSoundCells reverted kept.sound) core.accounted);
               within = still-within base forest forest j j' refl (ap (λ (q : Journaled). q.calls) told) core.within;
               bare = λ f. happened f;

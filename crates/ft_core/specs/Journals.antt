@@ -12,8 +12,8 @@ use Rattle.ft_tree.specs.Sound.{AreSoundCells, IsFree}
 use Rattle.ft_posix.specs.declared.call.Call.{Call}
 use Rattle.ft_posix.specs.declared.call.Reply.{Reply}
 use Rattle.ft_posix.specs.declared.call.Access.{Access}
-use Rattle.ft_moss.specs.declared.rule.Rule.{Rule}
-use Rattle.ft_moss.specs.contracts.rule.Rule as rule
+use Rattle.ft_lock_rules.specs.declared.rule.Rule.{Rule}
+use Rattle.ft_lock_rules.specs.contracts.rule.Rule as rule
 use Rattle.ft_forest.specs.declared.TheConstants.{LAST_NUMBER}
 use Rattle.ft_forest.specs.Transactions.{Transactions, last_in}
 use Rattle.ft_core.specs.declared.request.Event.{Event}

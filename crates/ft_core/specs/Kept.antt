@@ -1,7 +1,7 @@
 -- The invariant of a core.
 use Rattle.std.specs.Prelude.{◌≡◌, ◌≤◌, ◌+◌, ℕ, Bool, true, false, is_some, List, [], ◌∷◌, Some, None, length, map}
 use Rattle.std.specs.FinMap as finite
-use Rattle.ft_base.specs.Chains.{Lists, list_in}
+use Rattle.ft_base.specs.OwnedLists.{Lists, list_in}
 use Rattle.ft_laws.specs.Lists.{Each, Pairs, In}
 use Rattle.ft_laws.specs.Effects.{Has, Write as CellWrite}
 use Rattle.ft_cells.specs.declared.cell.Cell.{Cell}
@@ -14,15 +14,15 @@ use Rattle.ft_tree.specs.Sweep.{IsAccounted}
 use Rattle.ft_tree.specs.Tidy.{tidy}
 use Rattle.ft_posix.specs.Posix.{posix, posix_calls}
 use Rattle.ft_posix.specs.RunLaws.{writes_cell}
-use Rattle.ft_undo.specs.declared.logs.Logged.{Logged}
+use Rattle.ft_undo.specs.declared.logs.LogRecord.{LogRecord}
 use Rattle.ft_undo.specs.Logs.{is_open}
 use Rattle.ft_undo.specs.Undone.{given_back, CanGiveAllBack}
 use Rattle.ft_forest.specs.declared.TheConstants.{LAST_NUMBER}
 use Rattle.ft_forest.specs.Transactions.{Transactions, parent_in, state_in, last_in}
-use Rattle.ft_moss.specs.Locks.{LockTable, is_locked, is_let_go, is_opened}
-use Rattle.ft_moss.specs.Law.{AreLocksOf}
-use Rattle.ft_moss.specs.Rules.{is_strict}
-use Rattle.ft_moss.specs.Surveys.{HasNoHolderAbove}
+use Rattle.ft_lock_rules.specs.Locks.{LockTable, is_locked, is_released, is_opened}
+use Rattle.ft_lock_rules.specs.Law.{AreLocksOf}
+use Rattle.ft_lock_rules.specs.Rules.{is_strict}
+use Rattle.ft_lock_rules.specs.Surveys.{HasNoHolderAbove}
 use Rattle.ft_history.specs.History.{Base as HistoryBase, IsFresh, last_transaction, last_stamp, begun, parent, fate, grants, IsLive}
 use Rattle.ft_history.specs.Core.{Entry, IsCore}
 use Rattle.ft_history.specs.Undoing.{last_sub}
@@ -105,26 +105,26 @@ pub record ArePlaced (cells : Cells) (e : Item) : Type 0 where
 
 -- A stored inverse does what the call's inverse does, and may do so if the cells have their places
 -- and hold what the call left.
-pub record TakesBack (e : Item) (x : Logged) : Type 0 where
+pub record TakesBack (e : Item) (x : LogRecord) : Type 0 where
   pub stamp : x.stamp ≡ e.done.call.stamp
   pub same : map given_back x.undo ≡ e.inverse.before
   pub may : (cells : Cells) → Each (λ (w : Change). IsStored cells w.cell) e.inverse.after → Has posix cells e.inverse.after → CanGiveAllBack cells x.undo
 
 -- the list of stored inverses is that of the calls and their inverses
-abbrev pub AreLogged : List Item → List Logged → Type 0
+abbrev pub AreLogged : List Item → List LogRecord → Type 0
 AreLogged [] [] = Unit {0}
 AreLogged [] (x ∷ xs) = ⊥
 AreLogged (e ∷ es) [] = ⊥
 AreLogged (e ∷ es) (x ∷ xs) = TakesBack e x × AreLogged es xs
 
 -- The logs have the inverse of each call in the lists, and each may be put to the cells.
-pub record AreLogs (cells : Cells) (log : ℕ → List Item) (lists : Lists Logged) : Type 0 where
+pub record AreLogs (cells : Cells) (log : ℕ → List Item) (lists : Lists LogRecord) : Type 0 where
   pub logged : (t : ℕ) → AreLogged (log t) (list_in lists t)
   pub placed : (t : ℕ) (e : Item) → In e (log t) → ArePlaced cells e
 
 -- A live transaction is open in the lock table and in the logs, and what is noted of its
 -- children's commits is there.
-pub record IsReady (base : Base) (h : History) (table : LockTable) (lists : Lists Logged) (j : Journaled) (t : ℕ) : Type 0 where
+pub record IsReady (base : Base) (h : History) (table : LockTable) (lists : Lists LogRecord) (j : Journaled) (t : ℕ) : Type 0 where
   pub locks : is_opened table t ≡ true
   pub log : is_open lists t ≡ true
   pub sub : finite.get j.subs t ≡ Some (last_sub posix_calls base.last_stamp h t)
@@ -141,7 +141,7 @@ allowed base forest j = record {
 
 -- The invariant of a core: its tree, its transactions, its locks and its lists are those of its
 -- history, whatever can be undone has its places, and a place of no use is locked or was released.
-pub record IsCoreAt (base : Base) (h : History) (asks : Asks) (last_txn last_number : ℕ) (cells : Cells) (forest : Transactions) (table : LockTable) (lists : Lists Logged) (j : Journaled) : Type 0 where
+pub record IsCoreAt (base : Base) (h : History) (asks : Asks) (last_txn last_number : ℕ) (cells : Cells) (forest : Transactions) (table : LockTable) (lists : Lists LogRecord) (j : Journaled) : Type 0 where
   pub log : ℕ → List Item
   pub kept : IsKept base h last_txn last_number cells log
   pub transactions : AreTransactions base h last_txn forest
@@ -153,7 +153,7 @@ pub record IsCoreAt (base : Base) (h : History) (asks : Asks) (last_txn last_num
   pub ready : (t : ℕ) → IsLive posix_calls base.last_txn h t → IsReady base h table lists j t
   -- only live transactions wait
   pub waiting : (t : ℕ) → is_some (finite.get asks t) ≡ true → IsLive posix_calls base.last_txn h t
-  pub accounted : IsAccounted (is_locked table) (is_let_go table) cells
+  pub accounted : IsAccounted (is_locked table) (is_released table) cells
   -- no limit is above the greatest
   pub within : are_within (allowed base forest j) greatest_limits ≡ true
   -- if nothing has happened no place is of no use

@@ -6,8 +6,8 @@ use Rattle.ft_posix.specs.Laws.{TidyingLaw, SoundnessLaw}
 use Rattle.ft_posix.specs.Leaving.{LeavingLaw, UselessLaw, MakingLaw}
 use Rattle.ft_posix.specs.RunLaws.{PlainAccessesLaw, HidingLaw, RunLaw, PlacedLaw, WritesLaw, NamelessLaw}
 use Rattle.ft_posix.specs.Posix.{posix_calls}
-use Rattle.ft_moss.specs.Knowing.{KnownLaw}
-use Rattle.ft_moss.specs.Law.{FirstLaw, OwnerLaw, BeginLaw, GrantLaw, UndoLaw, CommitLaw, AbortLaw, ReleaseLaw, BlockLaw, ForeignLaw, AloneLaw, HolderLaw, CoverLaw, LockedLaw}
+use Rattle.ft_lock_rules.specs.Knowing.{KnownLaw}
+use Rattle.ft_lock_rules.specs.Law.{FirstLaw, OwnerLaw, BeginLaw, GrantLaw, UndoLaw, CommitLaw, AbortLaw, ReleaseLaw, BlockLaw, ForeignLaw, AloneLaw, HolderLaw, CoverLaw, LockedLaw}
 
 -- what is known of the calls, in one place; each is proved in ft_posix
 pub record CallLaws : Type 0 where
@@ -26,7 +26,7 @@ pub record CallLaws : Type 0 where
   pub useless : UselessLaw
   pub making : MakingLaw
 
--- what is known of the locks, in one place; each is proved in ft_moss
+-- what is known of the locks, in one place; each is proved in ft_lock_rules
 pub record LockLaws : Type 0 where
   pub first : FirstLaw
   pub begin : BeginLaw

@@ -1,4 +1,4 @@
-pub mod Faults
+-- What callers cite.
 pub mod Histories
 pub mod Limits
 pub mod States
@@ -7,18 +7,20 @@ pub mod Steps
 pub mod Promises
 pub mod Journals
 pub mod Laws
+pub mod Kept
+pub mod Reports
+pub mod Sweeps
+pub mod Reached
+pub mod FullOutcomes
+pub mod Fairness
+-- What the crate keeps true of itself.
+pub mod Faults
 pub mod Surveys
 pub mod Opens
 pub mod Makes
 pub mod Tries
-pub mod Kept
-pub mod Reports
 pub mod Taking
 pub mod Handing
-pub mod Sweeps
-pub mod Reached
 pub mod PastCode
 pub mod Noted
-pub mod FullOutcomes
 pub mod Memos
-pub mod Fairness

@@ -1,6 +1,6 @@
 -- A call that is made on the parts of a core.
 use Rattle.std.specs.Prelude.{◌≡◌, ℕ, List, map}
-use Rattle.ft_base.specs.Chains.{list_in}
+use Rattle.ft_base.specs.OwnedLists.{list_in}
 use Rattle.ft_laws.specs.Effects.{before}
 use Rattle.ft_cells.specs.Cells.{Cells}
 use Rattle.ft_posix.specs.declared.call.Access.{Access}
@@ -8,10 +8,10 @@ use Rattle.ft_posix.specs.Outcomes.{Write}
 use Rattle.ft_posix.specs.Accesses.{written_cell}
 use Rattle.ft_posix.specs.Stored.{put_all}
 use Rattle.ft_posix.specs.Posix.{posix}
-use Rattle.ft_undo.specs.declared.undo.Back.{Back}
+use Rattle.ft_undo.specs.declared.undo.BeforeImage.{BeforeImage}
 use Rattle.ft_undo.specs.Logs.{is_open, AreLists, AreOpen}
 use Rattle.ft_undo.specs.Undone.{given_back, CanGiveAllBack, AreAsLeft}
-use Rattle.ft_moss.specs.Locks.{AreGranted}
+use Rattle.ft_lock_rules.specs.Locks.{AreGranted}
 use Rattle.ft_history.specs.Logs.{pushed}
 use Rattle.ft_core.specs.declared.parts.Parts.{Parts}
 
@@ -20,7 +20,7 @@ use Rattle.ft_core.specs.declared.parts.Parts.{Parts}
 pub record IsMadeOn (old new : Parts) (writes : List Write) (t k : ℕ) (accesses : List Access) : Type 0 where
   pub forest : new.forest ≡ old.forest
   pub cells : new.tree ≡ put_all old.tree writes
-  pub undo : List Back
+  pub undo : List BeforeImage
   pub left : AreAsLeft new.tree new.tree (map written_cell writes)
   pub inverse : map given_back undo ≡ before posix old.tree writes
   pub may : (cells : Cells) → AreAsLeft cells new.tree (map written_cell writes) → CanGiveAllBack cells undo

@@ -14,8 +14,8 @@ use Rattle.ft_posix.specs.declared.intent.Edit.{Edit}
 use Rattle.ft_posix.specs.declared.intent.Edit.TheVariants.{Entry, Parent, Links, Overwrite, Resize, Open, DirAttributes, FileAttributes, Time}
 use Rattle.ft_posix.specs.Besides.{reads_of}
 use Rattle.ft_forest.specs.Transactions.{Transactions}
-use Rattle.ft_moss.specs.Locks.{LockTable, AreGranted}
-use Rattle.ft_moss.specs.Surveys.{HasItsCellsAlone}
+use Rattle.ft_lock_rules.specs.Locks.{LockTable, AreGranted}
+use Rattle.ft_lock_rules.specs.Surveys.{HasItsCellsAlone}
 use Rattle.ft_core.specs.declared.memo.Memo.{Memo}
 
 -- The front leads to its directory, and the transaction holds the lock of a read of each entry on

@@ -6,9 +6,9 @@ use Rattle.std.specs.declared.cmp.Ordering.{Ordering}
 use Rattle.std.specs.declared.cmp.Ordering.TheVariants.{Less}
 use Rattle.ft_laws.specs.Lists.{Pairs, In}
 use Rattle.ft_posix.specs.declared.call.Call.{Call}
-use Rattle.ft_moss.specs.declared.line.LockLine.{LockLine}
-use Rattle.ft_moss.specs.Locks.{line_cmp}
-use Rattle.ft_moss.specs.Law.{is_lock}
+use Rattle.ft_lock_rules.specs.declared.line.LockLine.{LockLine}
+use Rattle.ft_lock_rules.specs.Locks.{line_cmp}
+use Rattle.ft_lock_rules.specs.Law.{is_lock}
 use Rattle.ft_forest.specs.Transactions.{Transactions, parent_in}
 use Rattle.ft_history.specs.History.Fate.{Live}
 use Rattle.ft_core.specs.declared.reports.Pending.{Pending}

@@ -24,8 +24,8 @@ use Rattle.ft_history.specs.Forest.{is_some_and}
 use Rattle.ft_history.specs.History.{Fate, fate, is_live, over, begun, live_children as live_children_of, owner_of, grants, standing}
 use Rattle.ft_history.specs.Logs.{passing}
 use Rattle.ft_history.specs.Promises.{calls_below}
-use Rattle.ft_moss.specs.declared.rule.Rule.{Rule}
-use Rattle.ft_moss.specs.contracts.rule.Rule as rule
+use Rattle.ft_lock_rules.specs.declared.rule.Rule.{Rule}
+use Rattle.ft_lock_rules.specs.contracts.rule.Rule as rule
 use Rattle.ft_forest.specs.declared.state.State.{State as Life}
 use Rattle.ft_forest.specs.declared.state.State.TheVariants.{Live as LiveState, Committed as CommittedState, Aborted as AbortedState}
 use Rattle.ft_forest.specs.declared.TheConstants.{LAST_NUMBER}

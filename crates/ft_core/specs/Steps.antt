@@ -6,7 +6,7 @@ use Rattle.ft_posix.specs.declared.call.Access.{Access}
 use Rattle.ft_posix.specs.Posix.{as_place, posix_calls}
 use Rattle.ft_history.specs.History.{Fate}
 use Rattle.ft_history.specs.History.Fate.{Live, Committed as WasCommitted, Aborted as WasAborted}
-use Rattle.ft_moss.specs.Law.{blockers_by}
+use Rattle.ft_lock_rules.specs.Law.{blockers_by}
 use Rattle.ft_history.specs.Undoing.{Target, undo_target}
 use Rattle.ft_history.specs.Undoing.Target.{Found, SubSince as SubSinceTarget, Nothing}
 use Rattle.ft_core.specs.declared.fault.Fault.{Fault}

@@ -3,8 +3,8 @@ use Rattle.std.specs.Prelude.{◌≡◌, ◌≢◌, ℕ, List, []}
 use Rattle.ft_posix.specs.declared.call.Call.{Call}
 use Rattle.ft_posix.specs.Accesses.{accesses_of}
 use Rattle.ft_posix.specs.Stored.{outcome}
-use Rattle.ft_moss.specs.declared.rule.Rule.{Rule}
-use Rattle.ft_moss.specs.Locks.{AreBlockers}
+use Rattle.ft_lock_rules.specs.declared.rule.Rule.{Rule}
+use Rattle.ft_lock_rules.specs.Locks.{AreBlockers}
 use Rattle.ft_core.specs.declared.parts.Parts.{Parts}
 use Rattle.ft_core.specs.declared.parts.Made.{Made}
 use Rattle.ft_core.specs.declared.parts.Tried.{Tried}

@@ -27,7 +27,8 @@ impl Core {
     ///
     /// Refuses NoTxn, Ended, and Full if as many calls are granted as may be, in this order.
     pub fn ask(&mut self, txn: TxnId, call: Call) -> Result<Outcome, Fault>
-        ensures { IsStep exact_rule self.old.state (Ask txn call) (answer_with outcome_answer result) self.new.state }
+        ensures { IsStep exact_rule self.old.state (Ask txn call)
+            (answer_with outcome_answer result) self.new.state }
     {
         self.may_ask(txn)?;
         self.request(txn, Some(call))
@@ -38,7 +39,8 @@ impl Core {
     ///
     /// Refuses what `ask` refuses, in its order.
     pub fn ask_in_full(&mut self, txn: TxnId, call: Call) -> Result<FullOutcome, Fault>
-        ensures step { IsStep exact_rule self.old.state (Ask txn call) (answer_with full_answer result) self.new.state }
+        ensures step { IsStep exact_rule self.old.state (Ask txn call)
+            (answer_with full_answer result) self.new.state }
         ensures told { IfOk result (IsToldInFull self.old.state call) }
     {
         self.may_ask(txn)?;
@@ -58,7 +60,8 @@ impl Core {
     ///
     /// Refuses what `ask` refuses, in its order; the copy may want memory too.
     pub fn ask_copy(&mut self, txn: TxnId, call: &Call) -> Result<Outcome, Fault>
-        ensures { IsStep exact_rule self.old.state (Ask txn call.now) (answer_with outcome_answer result) self.new.state }
+        ensures { IsStep exact_rule self.old.state (Ask txn call.now)
+            (answer_with outcome_answer result) self.new.state }
     {
         self.may_ask(txn)?;
         let copy = call.copy(self.alloc)?;
@@ -70,19 +73,23 @@ impl Core {
     ///
     /// Refuses NoTxn, Ended, NoAsk, and Full if as many calls are granted as may be, in this order.
     pub fn retry(&mut self, txn: TxnId) -> Result<Outcome, Fault>
-        ensures { IsStep exact_rule self.old.state (Retry txn) (answer_with outcome_answer result) self.new.state }
+        ensures { IsStep exact_rule self.old.state (Retry txn) (answer_with outcome_answer result)
+            self.new.state }
     {
         self.may_retry(txn)?;
         self.request(txn, None)
     }
 
-    /// Makes the call that a transaction waits for, as `retry` does, and hands out all that was made
-    /// of it, as `ask_in_full` does.
+    /// Makes the call that a transaction waits for, as `retry` does, and hands out all that was
+    /// made of it, as `ask_in_full` does.
     ///
     /// Refuses what `retry` refuses, in its order.
     pub fn retry_in_full(&mut self, txn: TxnId) -> Result<FullOutcome, Fault>
-        ensures step { IsStep exact_rule self.old.state (Retry txn) (answer_with full_answer result) self.new.state }
-        ensures told { IfOk result (λ outcome. (call : CallOf) × (finite.get self.old.state.asks txn ≡ Some call) × IsToldInFull self.old.state call outcome) }
+        ensures step { IsStep exact_rule self.old.state (Retry txn) (answer_with full_answer result)
+            self.new.state }
+        ensures told { IfOk result
+            (λ outcome. (call : CallOf) × (finite.get self.old.state.asks txn ≡ Some call)
+            × IsToldInFull self.old.state call outcome) }
     {
         self.may_retry(txn)?;
         self.request_in_full(txn, None)
@@ -118,7 +125,10 @@ impl Core {
         requires few { has_most_calls self.old.state ≡ false }
         requires live { fate_of self.old.state txn ≡ Some Live }
         requires some { IsSome (asked_for asked (finite.get self.old.state.asks txn)) }
-        ensures asked { IfOk result (λ outcome. (call : CallOf) × (asked_for asked (finite.get self.old.state.asks txn) ≡ Some call) × IsAsked exact_rule self.old.state txn call (outcome_answer outcome) self.new.state) }
+        ensures asked { IfOk result
+            (λ outcome. (call : CallOf)
+            × (asked_for asked (finite.get self.old.state.asks txn) ≡ Some call)
+            × IsAsked exact_rule self.old.state txn call (outcome_answer outcome) self.new.state) }
         ensures memory { IfErr result (λ fault. fault ≡ MemoryFault) }
         ensures same { OnErr result (self.new.state ≡ self.old.state) }
     {
@@ -166,7 +176,11 @@ impl Core {
         requires few { has_most_calls self.old.state ≡ false }
         requires live { fate_of self.old.state txn ≡ Some Live }
         requires some { IsSome (asked_for asked (finite.get self.old.state.asks txn)) }
-        ensures asked { IfOk result (λ outcome. (call : CallOf) × (asked_for asked (finite.get self.old.state.asks txn) ≡ Some call) × IsAsked exact_rule self.old.state txn call (full_answer outcome) self.new.state × IsToldInFull self.old.state call outcome) }
+        ensures asked { IfOk result
+            (λ outcome. (call : CallOf)
+            × (asked_for asked (finite.get self.old.state.asks txn) ≡ Some call)
+            × IsAsked exact_rule self.old.state txn call (full_answer outcome) self.new.state
+            × IsToldInFull self.old.state call outcome) }
         ensures memory { IfErr result (λ fault. fault ≡ MemoryFault) }
         ensures same { OnErr result (self.new.state ≡ self.old.state) }
     {

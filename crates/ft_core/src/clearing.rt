@@ -3,7 +3,7 @@ ghost use Rattle.std.specs.Prelude.{◌≡◌, None, OnOk, IfErr};
 ghost use Rattle.ft_core.specs.declared.fault.Fault.TheVariants.{Live as LiveFault};
 ghost use Rattle.ft_core.specs.declared.request.Request.TheVariants.{Checkpoint};
 ghost use Rattle.ft_core.specs.declared.request.Answer.TheVariants.{Cleared};
-ghost use Rattle.ft_moss.specs.Locks.{no_locks as without_locks};
+ghost use Rattle.ft_lock_rules.specs.Locks.{no_locks as without_locks};
 ghost use Rattle.ft_core.specs.Living.{NoneIsLive};
 ghost use Rattle.ft_core.specs.States.{after_checkpoint};
 ghost use Rattle.ft_core.specs.Steps.{IsStep, exact_rule, refusal_of, refused_with, answer_with};
@@ -21,7 +21,8 @@ impl Core {
     ///
     /// Refuses Live if a transaction is live, and nothing else. Takes no memory.
     pub fn checkpoint(&mut self) -> Result<(), Fault>
-        ensures step { IsStep exact_rule self.old.state Checkpoint (answer_with (λ done. Cleared) result) self.new.state }
+        ensures step { IsStep exact_rule
+            self.old.state Checkpoint (answer_with (λ done. Cleared) result) self.new.state }
         ensures live { IfErr result (λ fault. fault ≡ LiveFault) }
     {
         self.may_checkpoint()?;

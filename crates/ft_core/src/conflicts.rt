@@ -11,7 +11,8 @@ use ft_posix::Mode;
 /// Whether some access of one list conflicts with some of another, on what has a number below the
 /// next one: their cells overlap, and one of them writes.
 pub(crate) fn some_conflict(some: &[Access], others: &[Access], next: u64) -> bool
-    ensures { result ≡ list_any (λ access. nat_lt (cell_number access.cell) next && list_any (conflict access) others.now) some.now }
+    ensures { result ≡ list_any (λ access. nat_lt (cell_number access.cell) next
+        && list_any (conflict access) others.now) some.now }
 {
     some.iter().any(|access| is_below(&access.cell, next) && conflicts_with(access, others))
 }
@@ -32,12 +33,14 @@ fn is_below(cell: &Cell, next: u64) -> bool
     }
 }
 
+/// Returns whether an access conflicts with one of the others.
 fn conflicts_with(access: &Access, others: &[Access]) -> bool
     ensures { result ≡ list_any (conflict access.now) others.now }
 {
     others.iter().any(|other| conflict(access, other))
 }
 
+/// Returns whether two accesses conflict: their cells overlap, and one of them writes.
 fn conflict(access: &Access, other: &Access) -> bool
     ensures { result ≡ conflict access.now other.now }
 {
@@ -55,6 +58,7 @@ fn overlap(cell: &Cell, other: &Cell) -> bool
     }
 }
 
+/// Returns whether a mode is that of a write.
 fn is_write(mode: Mode) -> bool
     ensures { result ≡ is_write mode }
 {

@@ -24,7 +24,8 @@ impl Core {
     ///
     /// Refuses NoTxn, Ended, and ChildLive if it has a live child, in this order.
     pub fn commit(&mut self, txn: TxnId) -> Result<(), Fault>
-        ensures { IsStep exact_rule self.old.state (Commit txn) (answer_with (λ done. Committed) result) self.new.state }
+        ensures { IsStep exact_rule
+            self.old.state (Commit txn) (answer_with (λ done. Committed) result) self.new.state }
     {
         self.check_live(txn)?;
         if self.parts.forest.live_children(txn) > 0 {
@@ -45,22 +46,29 @@ impl Core {
     ///
     /// Refuses NoTxn and Ended, in this order.
     pub fn abort(&mut self, txn: TxnId) -> Result<u64, Fault>
-        ensures step { IsStep exact_rule self.old.state (Abort txn) (answer_with Aborted result) self.new.state }
+        ensures step { IsStep exact_rule self.old.state (Abort txn) (answer_with Aborted result)
+            self.new.state }
 
         // If it ran alone, the tree is that of its begin.
-        ensures alone { (before : StateOf) → RanAlone before self.old.state txn → (result ≡ Ok (count_standing self.old.state txn)) × (tree_of self.new.state ≡ tree_of before) }
+        ensures alone { (before : StateOf) → RanAlone before self.old.state txn
+            → (result ≡ Ok (count_standing self.old.state txn))
+            × (tree_of self.new.state ≡ tree_of before) }
     {
         Ok(self.abort_in_full(txn)?.calls)
     }
 
     /// Aborts a transaction as `abort` does, and also returns how many transactions it ends.
     pub fn abort_in_full(&mut self, txn: TxnId) -> Result<FullAbort, Fault>
-        ensures step { IsStep exact_rule self.old.state (Abort txn) (answer_with (λ abort. Aborted abort.calls) result) self.new.state }
+        ensures step { IsStep exact_rule
+            self.old.state (Abort txn) (answer_with (λ abort. Aborted abort.calls) result)
+            self.new.state }
         ensures calls { IfOk result (λ abort. abort.calls ≡ count_standing self.old.state txn) }
-        ensures transactions { IfOk result (λ abort. abort.transactions ≡ count_live self.old.state txn) }
+        ensures transactions { IfOk result
+            (λ abort. abort.transactions ≡ count_live self.old.state txn) }
 
         // If it ran alone, the tree is that of its begin.
-        ensures alone { (before : StateOf) → RanAlone before self.old.state txn → IsOk result × (tree_of self.new.state ≡ tree_of before) }
+        ensures alone { (before : StateOf) → RanAlone before self.old.state txn → IsOk result
+            × (tree_of self.new.state ≡ tree_of before) }
     {
         self.check_live(txn)?;
         Ok(self.abort_live(txn))
@@ -73,7 +81,8 @@ impl Core {
         ensures calls { result.calls ≡ count_standing self.old.state txn }
         ensures transactions { result.transactions ≡ count_live self.old.state txn }
         ensures ended { self.new.state ≡ after_abort self.old.state txn }
-        ensures alone { (before : StateOf) → RanAlone before self.old.state txn → tree_of (after_abort self.old.state txn) ≡ tree_of before }
+        ensures alone { (before : StateOf) → RanAlone before self.old.state txn
+            → tree_of (after_abort self.old.state txn) ≡ tree_of before }
     {
         // (no more calls are standing than stamps are given, and each transaction has a number of
         // its own)
@@ -113,10 +122,12 @@ impl Core {
     /// Refuses, in this order, NoTxn, Ended, ChildLive, and then NothingToUndo if there is none or
     /// SubSince if a child has committed since.
     pub fn undo_call(&mut self, txn: TxnId) -> Result<u64, Fault>
-        ensures step { IsStep exact_rule self.old.state (Undo txn) (answer_with Undone result) self.new.state }
+        ensures step { IsStep exact_rule self.old.state (Undo txn) (answer_with Undone result)
+            self.new.state }
 
         // The call just made is undone, and the tree is the one before it.
-        ensures just_made { (before : StateOf) (k : ℕ) → IsJustMade before self.old.state txn k → (result ≡ Ok k) × (tree_of self.new.state ≡ tree_of before) }
+        ensures just_made { (before : StateOf) (k : ℕ) → IsJustMade before self.old.state txn k
+            → (result ≡ Ok k) × (tree_of self.new.state ≡ tree_of before) }
     {
         self.check_live(txn)?;
         if self.parts.forest.live_children(txn) > 0 {
@@ -133,8 +144,12 @@ impl Core {
     /// a child has committed since.
     fn undo_target(&self, txn: TxnId) -> Result<u64, Fault>
         requires { fate_of self.now.state txn ≡ Some Live }
-        ensures found { IfOk result (λ stamp. (d : Granted) × (undo_target posix_calls (history self.now.state) txn ≡ Found d) × (d.call.stamp ≡ stamp)) }
-        ensures refused { IfErr result (λ fault. fault_of_target (undo_target posix_calls (history self.now.state) txn) ≡ Some fault) }
+        ensures found { IfOk result
+            (λ stamp. (d : Granted) × (undo_target posix_calls (history self.now.state) txn
+            ≡ Found d) × (d.call.stamp ≡ stamp)) }
+        ensures refused { IfErr result
+            (λ fault. fault_of_target (undo_target posix_calls (history self.now.state) txn)
+            ≡ Some fault) }
     {
         let last_sub = self.journal.last_sub(txn);
         match self.parts.logs.newest(txn.0) {

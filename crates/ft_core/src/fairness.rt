@@ -37,7 +37,8 @@ impl Core {
     ///
     /// Refuses what `ask` refuses, in its order.
     pub fn ask_behind(&mut self, txn: TxnId, call: Call, ahead: &[TxnId]) -> Result<Outcome, Fault>
-        ensures { IsStep (fair_rule ahead.now) self.old.state (Ask txn call) (answer_with outcome_answer result) self.new.state }
+        ensures { IsStep (fair_rule ahead.now) self.old.state (Ask txn call)
+            (answer_with outcome_answer result) self.new.state }
     {
         self.may_ask(txn)?;
         self.request_behind(txn, Some(call), ahead)
@@ -48,7 +49,8 @@ impl Core {
     ///
     /// Refuses what `retry` refuses, in its order.
     pub fn retry_behind(&mut self, txn: TxnId, ahead: &[TxnId]) -> Result<Outcome, Fault>
-        ensures { IsStep (fair_rule ahead.now) self.old.state (Retry txn) (answer_with outcome_answer result) self.new.state }
+        ensures { IsStep (fair_rule ahead.now) self.old.state (Retry txn)
+            (answer_with outcome_answer result) self.new.state }
     {
         self.may_retry(txn)?;
         self.request_behind(txn, None, ahead)
@@ -58,7 +60,8 @@ impl Core {
     /// it waits behind those in front of it in a queue. One that is not in the queue is behind all
     /// of it.
     pub fn pending_behind(&self, queue: &[TxnId]) -> Result<Vec<Pending>, Memory>
-        ensures { IfOk result (λ list. map as_wait list.items ≡ waits_behind self.now.state queue.now) }
+        ensures { IfOk result (λ list. map as_wait list.items
+            ≡ waits_behind self.now.state queue.now) }
     {
         let mut list = Vec::new(self.alloc);
         list_behind(self, self.journal.asks(), queue, &mut list)?;
@@ -68,7 +71,9 @@ impl Core {
     /// Returns the blockers of the call that a transaction waits for, in rising order, if it waits
     /// behind these; none if it waits for no call.
     pub fn blockers_behind(&self, txn: TxnId, ahead: &[TxnId]) -> Result<Vec<TxnId>, Memory>
-        ensures { IfOk result (λ blockers. MatchOption (finite.get self.now.state.asks txn) (blockers.items ≡ []) (λ call. blockers.items ≡ fair_rule ahead.now self.now.state txn (accesses_now self.now.state call))) }
+        ensures { IfOk result (λ blockers. MatchOption (finite.get self.now.state.asks txn)
+            (blockers.items ≡ []) (λ call. blockers.items
+            ≡ fair_rule ahead.now self.now.state txn (accesses_now self.now.state call))) }
     {
         match self.journal.pending(txn) {
             None => Ok(Vec::new(self.alloc)),
@@ -105,7 +110,11 @@ impl Core {
         requires few { has_most_calls self.old.state ≡ false }
         requires live { fate_of self.old.state txn ≡ Some Live }
         requires some { IsSome (asked_for asked (finite.get self.old.state.asks txn)) }
-        ensures asked { IfOk result (λ outcome. (call : CallOf) × (asked_for asked (finite.get self.old.state.asks txn) ≡ Some call) × IsAsked (fair_rule ahead.now) self.old.state txn call (outcome_answer outcome) self.new.state) }
+        ensures asked { IfOk result
+            (λ outcome. (call : CallOf)
+            × (asked_for asked (finite.get self.old.state.asks txn) ≡ Some call)
+            × IsAsked (fair_rule ahead.now) self.old.state txn call (outcome_answer outcome)
+            self.new.state) }
         ensures memory { IfErr result (λ fault. fault ≡ MemoryFault) }
         ensures same { OnErr result (self.new.state ≡ self.old.state) }
     {
@@ -125,7 +134,9 @@ impl Core {
     /// Notes that a transaction waits for a call that is requested now. Without one it waits on.
     fn wait_for(&mut self, txn: TxnId, asked: Option<Call>) -> Result<(), Memory>
         requires live { fate_of self.old.state txn ≡ Some Live }
-        ensures ok { (call : CallOf) → asked_for asked (finite.get self.old.state.asks txn) ≡ Some call → OnOk result (self.new.state ≡ after_wait self.old.state txn call) }
+        ensures ok { (call : CallOf)
+            → asked_for asked (finite.get self.old.state.asks txn) ≡ Some call
+            → OnOk result (self.new.state ≡ after_wait self.old.state txn call) }
         ensures err { OnErr result (self.new.state ≡ self.old.state) }
     {
         self.journal.wait(txn, asked)?;
@@ -134,7 +145,8 @@ impl Core {
 
     /// Returns the blockers of a call that waits behind others, in rising order.
     fn fair_blockers(&self, txn: TxnId, call: &Call, ahead: &[TxnId]) -> Result<Vec<TxnId>, Memory>
-        ensures { IfOk result (λ blockers. blockers.items ≡ fair_rule ahead.now self.now.state txn (accesses_now self.now.state call.now)) }
+        ensures { IfOk result (λ blockers. blockers.items
+            ≡ fair_rule ahead.now self.now.state txn (accesses_now self.now.state call.now)) }
     {
         let blockers = self.blockers_now(txn, call)?;
         if !blockers.is_empty() {
@@ -152,7 +164,8 @@ impl Core {
 
     /// Returns the transactions that hold a call back, in rising order.
     fn holders(&self, behind: &Behind<'_>) -> Result<Vec<TxnId>, Memory>
-        ensures { IfOk result (λ list. list.items ≡ holders behind.now.ahead.now self.now.state behind.now.txn behind.now.touched.now) }
+        ensures { IfOk result (λ list. list.items
+            ≡ holders behind.now.ahead.now self.now.state behind.now.txn behind.now.touched.now) }
     {
         let mut list = Vec::new(self.alloc);
         list_holders(self, self.journal.asks(), behind, &mut list)?;
@@ -161,7 +174,9 @@ impl Core {
 
     /// Whether a transaction that waits for a call holds another call back.
     fn holds_back(&self, behind: &Behind<'_>, txn: TxnId, call: &Call) -> Result<bool, Memory>
-        ensures { IfOk result (λ holds. holds ≡ holds_back behind.now.ahead.now self.now.state behind.now.txn behind.now.touched.now txn call.now) }
+        ensures { IfOk result (λ holds. holds
+            ≡ holds_back behind.now.ahead.now self.now.state behind.now.txn behind.now.touched.now
+            txn call.now) }
     {
         let is_ahead = is_among(behind.ahead, txn);
         let is_related = self.are_related(behind.txn, txn);
@@ -208,7 +223,8 @@ fn list_behind(
     queue: &[TxnId],
     list: &mut Vec<Pending>,
 ) -> Result<(), Memory>
-    ensures { OnOk result (map as_wait list.new.items ≡ map as_wait list.old.items ++ waits_behind_from core.now.state queue.now (finite.entries asks.now)) }
+    ensures { OnOk result (map as_wait list.new.items ≡ map as_wait list.old.items
+        ++ waits_behind_from core.now.state queue.now (finite.entries asks.now)) }
 {
     for (txn, call) in asks.sorted(core.alloc)? {
         let txn = TxnId(txn);
@@ -225,7 +241,9 @@ fn list_holders(
     behind: &Behind<'_>,
     list: &mut Vec<TxnId>,
 ) -> Result<(), Memory>
-    ensures { OnOk result (list.new.items ≡ list.old.items ++ holders_of behind.now.ahead.now core.now.state behind.now.txn behind.now.touched.now (finite.entries asks.now)) }
+    ensures { OnOk result (list.new.items ≡ list.old.items
+        ++ holders_of behind.now.ahead.now core.now.state behind.now.txn behind.now.touched.now
+        (finite.entries asks.now)) }
 {
     for (txn, call) in asks.sorted(core.alloc)? {
         let txn = TxnId(txn);

@@ -13,7 +13,7 @@ use crate::past::{Grant, Past, Seen, Turn};
 use ft_base::{Memory, PagedTable, Table};
 use ft_calls::{Call, Reply};
 use ft_forest::TxnId;
-use ft_moss::Rule;
+use ft_lock_rules::Rule;
 use ft_tree::Tree;
 use std::alloc::Global;
 use std::marker::Model;
@@ -57,7 +57,16 @@ impl Model for Journal {
 
     ghost coded = { coded_journaled };
 
-    ghost view = { λ a. record { rule = a.terms.rule; calls = a.terms.calls; events = a.past.events; asks = a.asks; subs = a.subs; base_tree = a.past.tree; base_stamp = a.base_stamp; last_stamp = a.last_stamp } };
+    ghost view = { λ a. record {
+      rule = a.terms.rule;
+      calls = a.terms.calls;
+      events = a.past.events;
+      asks = a.asks;
+      subs = a.subs;
+      base_tree = a.past.tree;
+      base_stamp = a.base_stamp;
+      last_stamp = a.last_stamp;
+    } };
 
     ghost invariant = { λ a. (a.base_stamp ≤ a.last_stamp) × (a.last_stamp ≤ last_number) };
 }
@@ -137,12 +146,15 @@ impl Journal {
         self.last_stamp
     }
 
+    /// Returns whether as many calls were granted since the base stamp as may be, or the last stamp
+    /// is the greatest number.
     pub(crate) fn is_full(&self) -> bool
         ensures { result ≡ is_full self.now }
     {
         self.last_stamp - self.base_stamp >= self.terms.calls || self.last_stamp >= LAST_NUMBER
     }
 
+    /// Returns the stamp after the last one.
     pub(crate) fn next_stamp(&self) -> u64
         ensures { result ≡ self.now.last_stamp + 1 }
     {
@@ -151,7 +163,8 @@ impl Journal {
 
     /// Makes the place of what is noted of a transaction that is to begin.
     pub(crate) fn open(&mut self, txn: u64) -> Result<(), Memory>
-        ensures ok { OnOk result (self.new ≡ record self.old { subs = finite.insert self.old.subs txn None }) }
+        ensures ok { OnOk result (self.new
+            ≡ record self.old { subs = finite.insert self.old.subs txn None }) }
         ensures err { OnErr result (self.new ≡ self.old) }
     {
         self.subs.insert(txn, None)
@@ -176,7 +189,9 @@ impl Journal {
         requires few { is_full self.old ≡ false }
         requires some { IsSome (asked_for asked.now (finite.get self.old.asks txn)) }
         ensures pending { result ≡ finite.get self.old.asks txn }
-        ensures told { (call : CallOf) → asked_for asked.now (finite.get self.old.asks txn) ≡ Some call → self.new ≡ with_call self.old txn call reply.now seen.now.accesses }
+        ensures told { (call : CallOf)
+            → asked_for asked.now (finite.get self.old.asks txn) ≡ Some call
+            → self.new ≡ with_call self.old txn call reply.now seen.now.accesses }
     {
         let stamp = self.last_stamp + 1;
         self.past = self.past.and(&Grant {

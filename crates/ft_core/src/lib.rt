@@ -22,10 +22,14 @@ mod sweeping;
 
 pub use fairness::in_front;
 pub use fault::Fault;
+pub use ft_base::Memory;
+pub use ft_calls::{Call, Mode, OpenFlags, Reply, Whence};
 pub use ft_forest::{
     DEFAULT_DEPTH, DEFAULT_TRANSACTIONS, LAST_NUMBER, MOST_TRANSACTIONS, State, TxnId,
 };
-pub use ft_moss::Rule;
+pub use ft_lock_rules::Rule;
+pub use ft_path::{Errno, FilePath, Name};
+pub use ft_tree::{AccessMode, Kind, Timestamp};
 pub use limits::Limits;
 pub use manager::Core;
 pub use reports::{LiveChild, Pending};

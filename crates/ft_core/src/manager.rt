@@ -6,7 +6,7 @@ ghost use Rattle.ft_forest.specs.declared.TheConstants.{LAST_NUMBER as last_numb
 ghost use Rattle.ft_tree.specs.Sound.{IsSoundTree, AreSoundCells};
 ghost use Rattle.ft_core.specs.declared.fault.Fault.{Fault as FaultOf};
 ghost use Rattle.ft_core.specs.declared.fault.Fault.TheVariants.{Memory as MemoryFault, BadLimits};
-ghost use Rattle.ft_moss.specs.declared.rule.Rule.TheVariants.{Profile};
+ghost use Rattle.ft_lock_rules.specs.declared.rule.Rule.TheVariants.{Profile};
 ghost use Rattle.ft_posix.specs.Posix.{posix_calls};
 ghost use Rattle.ft_history.specs.History.{parent as parent_of};
 ghost use Rattle.ft_history.specs.History.Fate.{Live};
@@ -30,8 +30,8 @@ use crate::memo::Memo;
 use crate::parts::Parts;
 use ft_base::Memory;
 use ft_forest::{Forest, ForestFault, ForestLimits, State, TxnId};
+use ft_lock_rules::Rule;
 use ft_locks::Locks;
-use ft_moss::Rule;
 use ft_tree::{Tree, TreeLimits};
 use ft_undo::Logs;
 use std::alloc::Global;
@@ -73,9 +73,13 @@ impl Model for Core {
 
     ghost coded = { coded_stored };
 
-    ghost view = { λ a. record { state = state_of a.parts.forest a.journal; cells = a.parts.tree } };
+    ghost view = { λ a. record {
+      state = state_of a.parts.forest a.journal;
+      cells = a.parts.tree;
+    } };
 
-    ghost invariant = { λ a. IsCoreOf (state_of a.parts.forest a.journal) a.parts a.journal × IsTrueOf a.memo a.parts.tree a.parts.locks };
+    ghost invariant = { λ a. IsCoreOf (state_of a.parts.forest a.journal) a.parts a.journal
+        × IsTrueOf a.memo a.parts.tree a.parts.locks };
 }
 
 impl Core {
@@ -100,7 +104,8 @@ impl Core {
     pub fn with(alloc: Global, rule: Rule, limits: Limits) -> Result<Core, Fault>
         ensures state { IfOk result (λ core. core.state ≡ first_state rule limits) }
         ensures within { OnOk result (are_within limits greatest_limits ≡ true) }
-        ensures refused { IfErr result (λ fault. fault ≡ cond (are_within limits greatest_limits) MemoryFault BadLimits) }
+        ensures refused { IfErr result
+            (λ fault. fault ≡ cond (are_within limits greatest_limits) MemoryFault BadLimits) }
     {
         if !limits.are_within(&Limits::greatest()) {
             return Err(Fault::BadLimits);
@@ -208,7 +213,8 @@ impl Core {
     ///
     /// Refuses NoTxn, Ended, Deep if the parent is as deep as one may be, and Full, in this order.
     pub fn sub(&mut self, txn: TxnId) -> Result<TxnId, Fault>
-        ensures { IsStep exact_rule self.old.state (Sub txn) (answer_with Txn result) self.new.state }
+        ensures { IsStep exact_rule self.old.state (Sub txn) (answer_with Txn result)
+            self.new.state }
     {
         self.may_sub(txn)?;
         self.start(Some(txn))
@@ -218,7 +224,8 @@ impl Core {
     ///
     /// Refuses NoTxn, Ended and NoAsk, in this order.
     pub fn drop_ask(&mut self, txn: TxnId) -> Result<(), Fault>
-        ensures { IsStep exact_rule self.old.state (DropAsk txn) (answer_with (λ done. Dropped) result) self.new.state }
+        ensures { IsStep exact_rule
+            self.old.state (DropAsk txn) (answer_with (λ done. Dropped) result) self.new.state }
     {
         self.check_live(txn)?;
         if self.journal.pending(txn).is_none() {
@@ -269,7 +276,9 @@ impl Core {
     /// Refuses a transaction that is not live.
     pub(crate) fn check_live(&self, txn: TxnId) -> Result<(), Fault>
         ensures live { OnOk result (fate_of self.now.state txn ≡ Some Live) }
-        ensures refused { IfErr result (λ fault. (later : Option FaultOf) → fault_of_fate (fate_of self.now.state txn) later ≡ Some fault) }
+        ensures refused { IfErr result
+            (λ fault. (later : Option FaultOf)
+            → fault_of_fate (fate_of self.now.state txn) later ≡ Some fault) }
     {
         match self.fate(txn) {
             None => Err(Fault::NoTxn),

@@ -3,8 +3,8 @@ ghost use Rattle.std.specs.Prelude.{◌≡◌, ℕ, true, false, None, Some, IfO
 ghost use Rattle.std.specs.Option.{option_copied, option_to_list};
 ghost use Rattle.ft_tree.specs.Views.{view_of};
 ghost use Rattle.ft_tree.specs.Fronts.{front_entries};
-ghost use Rattle.ft_moss.specs.Rules.{is_strict};
-ghost use Rattle.ft_moss.specs.Surveys.{HasNoHolderAbove};
+ghost use Rattle.ft_lock_rules.specs.Rules.{is_strict};
+ghost use Rattle.ft_lock_rules.specs.Surveys.{HasNoHolderAbove};
 ghost use Rattle.ft_core.specs.Surveys.{IsAloneIfChildless};
 ghost use Rattle.ft_core.specs.Memos.{IsHeld, IsTrueOf, StandElsewhere, AreElsewhere, IsLearnt};
 
@@ -12,8 +12,8 @@ use crate::parts::Parts;
 use ft_base::Memory;
 use ft_calls::{Access, Call, Edit, Edits, Mode};
 use ft_forest::TxnId;
-use ft_locks::Survey;
-use ft_moss::Rule;
+use ft_lock_rules::Rule;
+use ft_locks::LockCheck;
 use ft_path::{FilePath, JudgedPath};
 use ft_tree::{Cell, Cursor, Entry, Front, Node, ROOT, Tree};
 use std::alloc::Global;
@@ -53,7 +53,8 @@ impl Memo {
 
     /// The front that is known for a transaction, if there is one.
     pub(crate) fn front_of(&self, txn: TxnId) -> Option<&Front>
-        ensures { IfSome result (λ front. (self.now.txn ≡ Some txn) × (front.now ≡ self.now.front)) }
+        ensures { IfSome result (λ front. (self.now.txn ≡ Some txn)
+            × (front.now ≡ self.now.front)) }
     {
         if self.txn != Some(txn) {
             return None;
@@ -63,7 +64,9 @@ impl Memo {
 
     /// Forgets what is known if a directory on the way gets or loses an entry by these edits.
     pub(crate) fn forget_if_passed(&mut self, edits: &Edits<'_>)
-        ensures { (txn : ℕ) → self.new.txn ≡ Some txn → (self.old.txn ≡ Some txn) × (self.new.front ≡ self.old.front) × AreElsewhere (front_entries self.old.front) edits.now }
+        ensures { (txn : ℕ) → self.new.txn ≡ Some txn → (self.old.txn ≡ Some txn)
+            × (self.new.front ≡ self.old.front)
+            × AreElsewhere (front_entries self.old.front) edits.now }
     {
         if self.txn.is_some() && self.is_one_passed(edits) {
             self.txn = None;
@@ -78,7 +81,7 @@ impl Memo {
         if self.is_passed(items.first()) || self.is_passed(items.second()) {
             return true;
         }
-        for edit in items.others() {
+        for edit in items.rest() {
             if self.is_passed(Some(edit)) {
                 return true;
             }
@@ -88,7 +91,9 @@ impl Memo {
 
     /// Whether an edit, if there is one, is of an entry in a directory on the way.
     fn is_passed(&self, edit: Option<&Edit<'_>>) -> bool
-        ensures { result ≡ false → AreElsewhere (front_entries self.now.front) (option_to_list (option_copied edit.entry)) }
+        ensures { result ≡ false
+            → AreElsewhere (front_entries self.now.front)
+            (option_to_list (option_copied edit.entry)) }
     {
         let Some(edit) = edit else {
             return false;
@@ -120,7 +125,8 @@ impl Memo {
         call: &Call,
     )
         requires alone { IsAloneIfChildless parts.now.locks parts.now.forest txn }
-        requires no_holder { is_strict rule ≡ true → HasNoHolderAbove parts.now.locks parts.now.forest }
+        requires no_holder { is_strict rule ≡ true
+            → HasNoHolderAbove parts.now.locks parts.now.forest }
         requires known { IsTrueOf self.old parts.now.tree parts.now.locks }
         ensures { IsTrueOf self.new parts.now.tree parts.now.locks }
     {
@@ -131,11 +137,13 @@ impl Memo {
         }
     }
 
-    /// The same of a path that is long enough.
+    /// Learns where the front of a path leads, if it spares enough, and was that of the last such
+    /// call. The path is long enough. If there is not enough memory, nothing is known.
     #[inline(never)]
     fn learn_path(&mut self, alloc: Global, parts: &Parts, rule: Rule, txn: TxnId, path: &FilePath)
         requires alone { IsAloneIfChildless parts.now.locks parts.now.forest txn }
-        requires no_holder { is_strict rule ≡ true → HasNoHolderAbove parts.now.locks parts.now.forest }
+        requires no_holder { is_strict rule ≡ true
+            → HasNoHolderAbove parts.now.locks parts.now.forest }
         requires known { IsTrueOf self.old parts.now.tree parts.now.locks }
         ensures { IsTrueOf self.new parts.now.tree parts.now.locks }
     {
@@ -198,14 +206,16 @@ impl Memo {
     ) -> Result<bool, Memory>
         requires trailing { front.now.trailing ≡ true }
         requires alone { IsAloneIfChildless parts.now.locks parts.now.forest txn }
-        requires no_holder { is_strict rule ≡ true → HasNoHolderAbove parts.now.locks parts.now.forest }
-        ensures held { IfOk result (λ is_held. is_held ≡ true → IsHeld parts.now.tree parts.now.locks txn self.new.front) }
+        requires no_holder { is_strict rule ≡ true
+            → HasNoHolderAbove parts.now.locks parts.now.forest }
+        ensures held { IfOk result
+            (λ is_held. is_held ≡ true → IsHeld parts.now.tree parts.now.locks txn self.new.front) }
         ensures txn { self.new.txn ≡ self.old.txn }
     {
         let Some(reads) = self.learn(alloc, &parts.tree, front)? else {
             return Ok(false);
         };
-        let Survey { blockers, held } = parts.survey(txn, reads.as_slice(), rule)?;
+        let LockCheck { blockers, held } = parts.check(txn, reads.as_slice(), rule)?;
         drop(blockers);
         Ok(held == reads.len())
     }
@@ -219,7 +229,9 @@ impl Memo {
         front: &JudgedPath<'_>,
     ) -> Result<Option<Vec<Access>>, Memory>
         requires { front.now.trailing ≡ true }
-        ensures learnt { IfOk result (λ found. IfSome found (λ reads. IsLearnt (view_of tree.now) self.new.front reads.items)) }
+        ensures learnt { IfOk result
+            (λ found. IfSome found (λ reads. IsLearnt (view_of tree.now) self.new.front
+            reads.items)) }
         ensures txn { self.new.txn ≡ self.old.txn }
     {
         let parts = front.parts(alloc)?;

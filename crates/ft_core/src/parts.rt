@@ -1,16 +1,16 @@
 // The parts of a core: the tree, and what is kept alongside it.
 ghost use Rattle.std.specs.Prelude.{◌≡◌, ◌<◌, ◌≤◌, ◌^◌, ◌+◌, ◌∷◌, ℕ, List, [], Some, None, cond, true, false, length, take, map, IfOk, OnOk, OnErr};
-ghost use Rattle.ft_base.specs.Chains.{list_in};
+ghost use Rattle.ft_base.specs.OwnedLists.{list_in};
 ghost use Rattle.ft_tree.specs.Sound.{AreSoundCells, IsFree};
-ghost use Rattle.ft_posix.specs.Comes.{reply_of, writes_of};
+ghost use Rattle.ft_posix.specs.Computes.{reply_of, writes_of};
 ghost use Rattle.ft_posix.specs.Edits.{CanEditAll, Apart};
 ghost use Rattle.ft_posix.specs.Stored.{put_all};
-ghost use Rattle.ft_undo.specs.declared.logs.Logged.{Logged as LoggedOf};
+ghost use Rattle.ft_undo.specs.declared.logs.LogRecord.{LogRecord as LoggedOf};
 ghost use Rattle.ft_undo.specs.Logs.{is_open, AreLists, AreOpen};
 ghost use Rattle.ft_undo.specs.Undone.{given_back, CanGiveAllBack};
-ghost use Rattle.ft_moss.specs.Locks.{is_opened, AreGranted, AreBlockers};
-ghost use Rattle.ft_moss.specs.Rules.{is_strict};
-ghost use Rattle.ft_moss.specs.Surveys.{HasNoHolderAbove};
+ghost use Rattle.ft_lock_rules.specs.Locks.{is_opened, AreGranted, AreBlockers};
+ghost use Rattle.ft_lock_rules.specs.Rules.{is_strict};
+ghost use Rattle.ft_lock_rules.specs.Surveys.{HasNoHolderAbove};
 ghost use Rattle.ft_history.specs.Logs.{put, popped, handed};
 ghost use Rattle.ft_core.specs.Handing.{AreHandedUp, MayHandUp};
 ghost use Rattle.ft_core.specs.Makes.{IsMadeOn, IsUnmade};
@@ -23,12 +23,12 @@ ghost use Rattle.ft_core.specs.FullOutcomes.{IsTwice};
 
 use crate::memo::Memo;
 use ft_base::Memory;
-use ft_calls::{Access, Call, Edits, Looked, Reply, Told, look_behind};
+use ft_calls::{Access, Call, Edits, Looked, PlannedReply, Reply, look_behind};
 use ft_forest::{Forest, TxnId};
-use ft_locks::{Locks, Survey};
-use ft_moss::Rule;
+use ft_lock_rules::Rule;
+use ft_locks::{LockCheck, Locks};
 use ft_tree::{Front, Tree};
-use ft_undo::{Logged, Logs, revert};
+use ft_undo::{LogRecord, Logs, revert};
 use std::alloc::Global;
 
 /// The tree, the transactions on it, their locks, and what takes their calls back.
@@ -78,7 +78,13 @@ impl Made {
     }
 
     /// Writes the reply that a call got, a second time too if that is wanted.
-    fn tell(&mut self, alloc: Global, tree: &Tree, told: &Told, twice: bool) -> Result<(), Memory>
+    fn tell(
+        &mut self,
+        alloc: Global,
+        tree: &Tree,
+        told: &PlannedReply,
+        twice: bool,
+    ) -> Result<(), Memory>
         requires { self.old.kept ≡ None }
         ensures reply { OnOk result (self.new.reply ≡ reply_of tree.now told.now) }
         ensures kept { OnOk result (self.new.kept ≡ cond twice (Some self.new.reply) None) }
@@ -95,23 +101,27 @@ impl Parts {
     /// Returns the blockers of a call with these accesses by a rule, and for how many of them, from
     /// the first on, the asker holds the locks already. If it has live children they may share its
     /// cells, and then none is reported as held.
-    pub(crate) fn survey(
+    pub(crate) fn check(
         &self,
         txn: TxnId,
         accesses: &[Access],
         rule: Rule,
-    ) -> Result<Survey, Memory>
+    ) -> Result<LockCheck, Memory>
         requires alone { IsAloneIfChildless self.now.locks self.now.forest txn }
-        requires no_holder { is_strict rule ≡ true → HasNoHolderAbove self.now.locks self.now.forest }
-        ensures blockers { IfOk result (λ survey. AreBlockers rule self.now.locks self.now.forest txn accesses.now survey.blockers.items) }
-        ensures within { IfOk result (λ survey. survey.held ≤ length accesses.now) }
-        ensures held { IfOk result (λ survey. AreGranted self.now.locks self.now.locks txn (take survey.held accesses.now)) }
+        requires no_holder { is_strict rule ≡ true
+            → HasNoHolderAbove self.now.locks self.now.forest }
+        ensures blockers { IfOk result
+            (λ check. AreBlockers rule self.now.locks self.now.forest txn accesses.now
+            check.blockers.items) }
+        ensures within { IfOk result (λ check. check.held ≤ length accesses.now) }
+        ensures held { IfOk result
+            (λ check. AreGranted self.now.locks self.now.locks txn (take check.held accesses.now)) }
     {
         if self.forest.live_children(txn) != 0 {
             let blockers = self.locks.blockers(&self.forest, txn, accesses, rule)?;
-            return Ok(Survey { blockers, held: 0 });
+            return Ok(LockCheck { blockers, held: 0 });
         }
-        self.locks.survey(&self.forest, txn, accesses, rule)
+        self.locks.check(&self.forest, txn, accesses, rule)
     }
 
     /// Returns the front after which a call may begin, if one is known for its asker: it has no
@@ -119,8 +129,10 @@ impl Parts {
     fn front_for<'m>(&self, asker: &Asker, memo: &'m Memo) -> Option<&'m Front>
         requires known { IsTrueOf memo.now self.now.tree self.now.locks }
         requires alone { IsAloneIfChildless self.now.locks self.now.forest asker.now.txn }
-        ensures held { IsHeldIfAny self.now.tree self.now.locks asker.now.txn (option_copied result) }
-        ensures alone { IsAloneIfAny self.now.locks self.now.forest asker.now.txn (option_copied result) }
+        ensures held { IsHeldIfAny self.now.tree self.now.locks asker.now.txn
+            (option_copied result) }
+        ensures alone { IsAloneIfAny self.now.locks self.now.forest asker.now.txn
+            (option_copied result) }
         ensures none { asker.now.twice ≡ true → option_copied result ≡ None }
     {
         if asker.twice || self.forest.live_children(asker.txn) != 0 {
@@ -145,13 +157,16 @@ impl Parts {
         requires locks { is_opened self.old.locks asker.txn ≡ true }
         requires log { is_open self.old.logs asker.txn ≡ true }
         requires alone { IsAloneIfChildless self.old.locks self.old.forest asker.txn }
-        requires no_holder { is_strict rule ≡ true → HasNoHolderAbove self.old.locks self.old.forest }
+        requires no_holder { is_strict rule ≡ true
+            → HasNoHolderAbove self.old.locks self.old.forest }
         requires none_kept { made.old.kept ≡ None }
         requires known { IsTrueOf memo.old self.old.tree self.old.locks }
         ensures known { IsTrueOf memo.new self.new.tree self.new.locks }
-        ensures whole { asker.twice ≡ true → IfOk result (IsWhole self.old asker.stamp call.now made.new) }
+        ensures whole { asker.twice ≡ true
+            → IfOk result (IsWhole self.old asker.stamp call.now made.new) }
         ensures twice { IfOk result (IsTwice asker.twice made.new) }
-        ensures tried { IfOk result (IsTried rule self.old self.new asker.txn asker.stamp call.now made.new) }
+        ensures tried { IfOk result
+            (IsTried rule self.old self.new asker.txn asker.stamp call.now made.new) }
         ensures unmade { OnErr result (IsUnmade self.old self.new) }
     {
         // (they are released in one place, after all that may end the call)
@@ -175,14 +190,17 @@ impl Parts {
         requires locks { is_opened self.old.locks asker.txn ≡ true }
         requires log { is_open self.old.logs asker.txn ≡ true }
         requires alone { IsAloneIfChildless self.old.locks self.old.forest asker.txn }
-        requires no_holder { is_strict rule ≡ true → HasNoHolderAbove self.old.locks self.old.forest }
+        requires no_holder { is_strict rule ≡ true
+            → HasNoHolderAbove self.old.locks self.old.forest }
         requires no_edits { edits.old ≡ [] }
         requires none_kept { made.old.kept ≡ None }
         requires known { IsTrueOf memo.old self.old.tree self.old.locks }
         ensures known { IsTrueOf memo.new self.new.tree self.new.locks }
-        ensures whole { asker.twice ≡ true → IfOk result (IsWhole self.old asker.stamp call.now made.new) }
+        ensures whole { asker.twice ≡ true
+            → IfOk result (IsWhole self.old asker.stamp call.now made.new) }
         ensures twice { IfOk result (IsTwice asker.twice made.new) }
-        ensures tried { IfOk result (IsTried rule self.old self.new asker.txn asker.stamp call.now made.new) }
+        ensures tried { IfOk result
+            (IsTried rule self.old self.new asker.txn asker.stamp call.now made.new) }
         ensures unmade { OnErr result (IsUnmade self.old self.new) }
     {
         memo.learn_from(alloc, self, rule, asker.txn, call);
@@ -195,7 +213,7 @@ impl Parts {
             call,
             edits,
         )?;
-        let Survey { blockers, held } = self.survey(asker.txn, accesses.as_slice(), rule)?;
+        let LockCheck { blockers, held } = self.check(asker.txn, accesses.as_slice(), rule)?;
         if !blockers.is_empty() {
             return Ok(Tried::Blocked(blockers));
         }
@@ -223,15 +241,18 @@ impl Parts {
         requires locks { is_opened self.old.locks asker.txn ≡ true }
         requires log { is_open self.old.logs asker.txn ≡ true }
         requires within { held ≤ length accesses.now }
-        requires held { AreGranted self.old.locks self.old.locks asker.txn (take held accesses.now) }
-        ensures made { OnOk result (IsMadeOn self.old self.new (writes_of self.old.tree edits.now) asker.txn asker.stamp accesses.now) }
+        requires held { AreGranted self.old.locks self.old.locks asker.txn
+            (take held accesses.now) }
+        ensures made { OnOk result
+            (IsMadeOn self.old self.new (writes_of self.old.tree edits.now) asker.txn asker.stamp
+            accesses.now) }
         ensures unmade { OnErr result (IsUnmade self.old self.new) }
     {
         self.logs
             .apply(alloc, asker.txn.0, asker.stamp, &mut self.tree, edits)?;
         if self.locks.grant(asker.txn, &accesses[held..]).is_err() {
-            if let Some(Logged { stamp: _, undo }) = self.logs.take_last(asker.txn.0) {
-                undo.take_back(&mut self.tree);
+            if let Some(LogRecord { stamp: _, undo }) = self.logs.take_last(asker.txn.0) {
+                undo.roll_back(&mut self.tree);
             }
             return Err(Memory);
         }
@@ -259,9 +280,11 @@ impl Parts {
 
     /// Undoes the newest call of a transaction's list, if there is one. Takes no memory.
     pub(crate) fn take_newest(&mut self, txn: TxnId)
-        requires { (x : LoggedOf) (xs : List LoggedOf) → list_in self.old.logs txn ≡ x ∷ xs → CanGiveAllBack self.old.tree x.undo }
+        requires { (x : LoggedOf) (xs : List LoggedOf) → list_in self.old.logs txn ≡ x ∷ xs
+            → CanGiveAllBack self.old.tree x.undo }
         ensures others { self.new ≡ record self.old { tree = self.new.tree; logs = self.new.logs } }
-        ensures cells { (x : LoggedOf) (xs : List LoggedOf) → list_in self.old.logs txn ≡ x ∷ xs → self.new.tree ≡ put_all self.old.tree (map given_back x.undo) }
+        ensures cells { (x : LoggedOf) (xs : List LoggedOf) → list_in self.old.logs txn ≡ x ∷ xs
+            → self.new.tree ≡ put_all self.old.tree (map given_back x.undo) }
         ensures lists { AreLists self.new.logs (popped (list_in self.old.logs) (Some txn)) }
         ensures opened { AreOpen self.new.logs (is_open self.old.logs) }
     {
@@ -276,7 +299,10 @@ impl Parts {
         requires locks { is_opened self.old.locks txn ≡ true }
         requires logs { is_open self.old.logs txn ≡ true }
         requires parent { MayHandUp self.old.locks self.old.logs txn parent.now }
-        ensures others { self.new ≡ record self.old { locks = self.new.locks; logs = self.new.logs } }
+        ensures others { self.new ≡ record self.old {
+          locks = self.new.locks;
+          logs = self.new.logs;
+        } }
         ensures locks { AreHandedUp self.old.locks self.new.locks txn parent.now }
         ensures lists { AreLists self.new.logs (handed (list_in self.old.logs) txn parent.now) }
         ensures opened { AreOpen self.new.logs (put (is_open self.old.logs) txn false) }

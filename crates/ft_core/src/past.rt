@@ -91,7 +91,8 @@ impl Past {
     /// This happens too.
     #[inline(always)]
     pub(crate) fn then(&self, _turn: &Turn) -> Past
-        ensures { (result.tree ≡ self.now.tree) × (result.events ≡ turned self.now.events _turn.now) }
+        ensures { (result.tree ≡ self.now.tree)
+            × (result.events ≡ turned self.now.events _turn.now) }
     {
         Past {}
     }
@@ -99,7 +100,8 @@ impl Past {
     /// This call is granted too.
     #[inline(always)]
     pub(crate) fn and(&self, _grant: &Grant<'_>) -> Past
-        ensures { (result.tree ≡ self.now.tree) × (result.events ≡ granted_too self.now.events _grant.now) }
+        ensures { (result.tree ≡ self.now.tree)
+            × (result.events ≡ granted_too self.now.events _grant.now) }
     {
         Past {}
     }

@@ -8,7 +8,7 @@ use crate::manager::Core;
 use ft_base::{Memory, Table};
 use ft_calls::{Call, accesses};
 use ft_forest::{Forest, TxnId};
-use ft_locks::{LockLine, Survey};
+use ft_locks::{LockCheck, LockLine};
 
 /// A transaction that waits for a call, with those that block it.
 #[derive(Debug, Drop)]
@@ -58,21 +58,24 @@ impl Core {
 
     /// Returns the transactions that block a call now, in rising order.
     pub(crate) fn blockers_now(&self, txn: TxnId, call: &Call) -> Result<Vec<TxnId>, Memory>
-        ensures blockers { IfOk result (λ blockers. blockers.items ≡ blockers_now self.now.state txn call.now) }
+        ensures blockers { IfOk result
+            (λ blockers. blockers.items ≡ blockers_now self.now.state txn call.now) }
         ensures rising { IfOk result (λ blockers. Pairs (λ x y. x < y) blockers.items) }
     {
         let stamp = self.journal.next_stamp();
         let touched = accesses(self.alloc, &self.parts.tree, stamp, call)?;
         let rule = self.journal.rule();
-        let Survey { blockers, .. } = self.parts.survey(txn, touched.as_slice(), rule)?;
+        let LockCheck { blockers, .. } = self.parts.check(txn, touched.as_slice(), rule)?;
         Ok(blockers)
     }
 }
 
 /// Lists each of these asks with those that block it.
 fn list_pending(core: &Core, asks: &Table<Call>, list: &mut Vec<Pending>) -> Result<(), Memory>
-    ensures rising { OnOk result (Each HasRisingBlockers list.old.items → Each HasRisingBlockers list.new.items) }
-    ensures list { OnOk result (map as_wait list.new.items ≡ map as_wait list.old.items ++ waits_from core.now.state (finite.entries asks.now)) }
+    ensures rising { OnOk result (Each HasRisingBlockers list.old.items
+        → Each HasRisingBlockers list.new.items) }
+    ensures list { OnOk result (map as_wait list.new.items ≡ map as_wait list.old.items
+        ++ waits_from core.now.state (finite.entries asks.now)) }
 {
     for (txn, call) in asks.sorted(core.alloc)? {
         let txn = TxnId(txn);

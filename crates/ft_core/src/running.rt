@@ -15,9 +15,12 @@ impl Core {
     /// If there is no memory for the answers, that is refused before the first request, with
     /// nothing changed.
     pub fn run(&mut self, requests: Vec<Request>) -> Result<Vec<Answer>, Memory>
-        ensures ok { IfOk result (λ answers. IsRun exact_rule self.old.state requests.items answers.items self.new.state) }
+        ensures ok { IfOk result
+            (λ answers. IsRun exact_rule self.old.state requests.items answers.items
+            self.new.state) }
         ensures err { OnErr result (self.new ≡ self.old) }
-        ensures headline { OnOk result (GiveReplies self.new.state.base.tree (standing_calls self.new.state)) }
+        ensures headline { OnOk result
+            (GiveReplies self.new.state.base.tree (standing_calls self.new.state)) }
     {
         let mut answers = Vec::with_capacity(self.alloc, requests.len())?;
         for request in requests {

@@ -18,7 +18,8 @@ impl Core {
     /// live none at all.
     pub fn sweep(&mut self) -> u64
         ensures same { self.new.state ≡ self.old.state }
-        ensures count { places_in self.old.cells < 2 ^ 64 - 1 → places_in self.old.cells ≡ result + places_in self.new.cells }
+        ensures count { places_in self.old.cells < 2 ^ 64 - 1
+            → places_in self.old.cells ≡ result + places_in self.new.cells }
         ensures locked { EachUselessIsLocked self.old.state self.new.cells }
         ensures none_left { NoneIsLive self.old.state → HasNoUselessPlace self.new.cells }
     {

@@ -2,7 +2,7 @@
 use Rattle.std.proofs.Common.{◌≡◌, ℕ, Bool, true, false, cond, ◌||◌, List, [], ◌∷◌, ◌++◌, Option, Some, None, refl, sym, ap, ◌∙◌}
 use Rattle.std.proofs.lemmas.Bool.{false≢true}
 use Rattle.std.specs.Prelude.{◌==◌, option_map, option_and_then}
-use Rattle.ft_words.specs.Spelling.{IsFreeOf, number_of}
+use Rattle.ft_words.specs.Spelling.{IsFreeOf, parse_u64}
 use Rattle.ft_dot.specs.Reading.{cut_at, rank_of}
 
 neither : (a b : Bool) → (a || b) ≡ false → (a ≡ false) × (b ≡ false)
@@ -28,7 +28,7 @@ cut_found (x ∷ xs) rest h =
 -- ---- a transaction with its rank
 
 abbrev pub ranked : List ℕ × List ℕ → Option (ℕ × ℕ)
-ranked parts = option_and_then (λ txn. option_map (λ rank. (txn, rank)) (number_of parts.1)) (number_of parts.0)
+ranked parts = option_and_then (λ txn. option_map (λ rank. (txn, rank)) (parse_u64 parts.1)) (parse_u64 parts.0)
 
 pub no_rank : (word : List ℕ) → IsFreeOf 58 word → rank_of word ≡ None
 no_rank word h = ap (option_and_then ranked) (cut_free 58 word h)

@@ -1,3 +1,5 @@
+-- What callers cite.
 pub mod Reading
-pub mod Drawing
 pub mod Drawn
+-- What the crate keeps true of itself.
+pub mod Drawing

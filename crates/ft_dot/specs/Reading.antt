@@ -7,7 +7,7 @@ use Rattle.ft_waits.specs.declared.edge.EdgeKind.{EdgeKind}
 use Rattle.ft_waits.specs.declared.edge.EdgeKind.TheVariants.{Lock, Child}
 use Rattle.ft_waits.specs.declared.verdict.Verdict.{Verdict}
 use Rattle.ft_waits.specs.declared.verdict.Verdict.TheVariants.{Cycle, Ranked}
-use Rattle.ft_words.specs.Spelling.{words_of, number_of}
+use Rattle.ft_words.specs.Spelling.{words_of, parse_u64}
 use Rattle.ft_words.specs.Calls.{look_up, only, three}
 use Rattle.ft_dot.specs.declared.report.Report.{Report}
 
@@ -32,7 +32,7 @@ cut_at byte (b ∷ bs) = if b == byte then Some ([], bs) else option_map (λ par
 
 -- the number of `edges N`
 abbrev pub count_of : List (List ℕ) → Option ℕ
-count_of words = option_and_then (only number_of) (behind (codes "edges") words)
+count_of words = option_and_then (only parse_u64) (behind (codes "edges") words)
 
 -- the names of the kinds
 abbrev pub kind_words : List (List ℕ × EdgeKind)
@@ -40,16 +40,16 @@ kind_words = (codes "lock", Lock) ∷ (codes "child", Child) ∷ []
 
 -- the edge of `edge FROM TO KIND`
 abbrev pub edge_of : List (List ℕ) → Option Edge
-edge_of words = option_map (λ e. record { from = e.0; to = e.1; kind = e.2 }) (option_and_then (three number_of number_of (only (look_up kind_words))) (behind (codes "edge") words))
+edge_of words = option_map (λ e. record { from = e.0; to = e.1; kind = e.2 }) (option_and_then (three parse_u64 parse_u64 (only (look_up kind_words))) (behind (codes "edge") words))
 
 -- the transaction and the rank of `T:RANK`
 abbrev pub rank_of : List ℕ → Option (ℕ × ℕ)
-rank_of word = option_and_then (λ parts. option_and_then (λ txn. option_map (λ rank. (txn, rank)) (number_of parts.1)) (number_of parts.0)) (cut_at 58 word)
+rank_of word = option_and_then (λ parts. option_and_then (λ txn. option_map (λ rank. (txn, rank)) (parse_u64 parts.1)) (parse_u64 parts.0)) (cut_at 58 word)
 
 -- the verdict by the word that it begins with: the members of a cycle, or ranks
 abbrev pub told_by : List ℕ → List (List ℕ) → Option Verdict
 told_by word words =
-    if bytes_eq word (codes "cycle") then option_map Cycle (each number_of words)
+    if bytes_eq word (codes "cycle") then option_map Cycle (each parse_u64 words)
     else (if bytes_eq word (codes "ranks") then option_map Ranked (each rank_of words) else None)
 
 -- the cycle of `cycle A B ..`, or the ranks of `ranks T:RANK ..`

@@ -29,7 +29,7 @@ impl fmt::Display for Digraph<'_> {
     }
 }
 
-// Edges, a line for each.
+/// Edges, a line for each.
 #[derive(Clone, Copy)]
 struct EdgeLines<'a>(&'a [Edge]);
 
@@ -45,7 +45,7 @@ impl fmt::Display for EdgeLines<'_> {
     }
 }
 
-// An edge for a lock is drawn whole, and one to a child in dashes.
+/// Returns the style of an edge: solid for a lock, dashed for a child.
 fn style_of(kind: EdgeKind) -> &'static str
     ensures { result.now ≡ style_of kind }
 {
@@ -55,7 +55,7 @@ fn style_of(kind: EdgeKind) -> &'static str
     }
 }
 
-// The transactions of a verdict, a line for each.
+/// The transactions of a verdict, a line for each.
 #[derive(Clone, Copy)]
 struct VerdictLines<'a>(&'a Verdict);
 
@@ -70,7 +70,7 @@ impl fmt::Display for VerdictLines<'_> {
     }
 }
 
-// The members of a cycle, each with its mark.
+/// The members of a cycle, each with its mark.
 #[derive(Clone, Copy)]
 struct MemberLines<'a>(&'a [TxnId]);
 
@@ -86,14 +86,14 @@ impl fmt::Display for MemberLines<'_> {
     }
 }
 
-// How a member of a cycle is marked.
+/// Returns the mark of a member of a cycle.
 fn cycle_mark() -> &'static str
     ensures { result.now ≡ cycle_mark }
 {
     "color=red"
 }
 
-// Transactions with their ranks.
+/// Transactions with their ranks.
 #[derive(Clone, Copy)]
 struct RankLines<'a>(&'a [(TxnId, u64)]);
 

@@ -44,7 +44,9 @@ pub fn draw<R: Read, W: Write>(
 /// Reads all that a reader has left. A fault is Memory or Read. An interrupted read is tried again.
 pub fn read_all<R: Read>(reader: &mut R, replies: &mut Vec<u8>) -> Result<(), PlayFault>
     requires { replies.old.items ≡ [] }
-    ensures bytes { (bytes : List ℕ) × Consumes (R.remaining reader.old) (R.remaining reader.new) bytes × (OnOk result (replies.new.items ≡ bytes)) }
+    ensures bytes { (bytes : List ℕ)
+        × Consumes (R.remaining reader.old) (R.remaining reader.new) bytes
+        × (OnOk result (replies.new.items ≡ bytes)) }
     ensures end { OnOk result (IsAtEnd (R.remaining reader.new)) }
     ensures cause { IfErr result (λ fault. (fault ≡ PlayFault.Memory) ⊎ (fault ≡ PlayFault.Read)) }
 {
@@ -54,7 +56,7 @@ pub fn read_all<R: Read>(reader: &mut R, replies: &mut Vec<u8>) -> Result<(), Pl
     }
 }
 
-// Why reading failed.
+/// Returns the fault of a failed read.
 fn fault_of(error: &io::Error) -> PlayFault
     ensures { (result ≡ PlayFault.Memory) ⊎ (result ≡ PlayFault.Read) }
 {
@@ -65,7 +67,7 @@ fn fault_of(error: &io::Error) -> PlayFault
     }
 }
 
-// The drawing of the last report among replies.
+/// Returns the drawing of the last report among replies.
 fn drawing_of(alloc: Global, replies: &[u8]) -> Result<String, Memory>
     ensures { IfOk result (λ text. string_bytes text ≡ dot_of (lines_of replies.now)) }
 {

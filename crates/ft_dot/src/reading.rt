@@ -1,6 +1,6 @@
 // From the lines of replies to the last report among them.
 ghost use Rattle.std.specs.Prelude.{◌≡◌, IfOk, option_map};
-ghost use Rattle.ft_words.specs.Spelling.{number_of, words_of};
+ghost use Rattle.ft_words.specs.Spelling.{parse_u64, words_of};
 ghost use Rattle.ft_words.specs.Calls.{look_up};
 ghost use Rattle.ft_dot.specs.Reading.{count_of, each, edge_of, kind_words, last_report, rank_of, report_of, told_by, verdict_of};
 
@@ -8,7 +8,7 @@ use crate::report::Report;
 use ft_base::Memory;
 use ft_core::TxnId;
 use ft_waits::{Edge, EdgeKind, Verdict};
-use ft_words::{Lines, Words, number_of, split_once};
+use ft_words::{Lines, Words, parse_u64, split_once};
 use std::alloc::{AllocError, Global};
 
 /// Returns the last report among the lines of replies.
@@ -31,7 +31,7 @@ pub fn last_report(alloc: Global, lines: Lines<'_>) -> Result<Option<Report>, Me
     Ok(last)
 }
 
-// The report of so many edges with which lines begin.
+/// Returns the report of this many edges with which lines begin.
 fn report_in(alloc: Global, count: u64, lines: Lines<'_>) -> Result<Option<Report>, Memory>
     ensures { IfOk result (λ report. report ≡ report_of count lines.entry) }
 {
@@ -57,7 +57,7 @@ fn report_in(alloc: Global, count: u64, lines: Lines<'_>) -> Result<Option<Repor
     }))
 }
 
-// The count of edges on a line.
+/// Returns the count of edges on a line.
 fn count_in(line: &[u8]) -> Option<u64>
     ensures { result ≡ count_of (words_of line.now) }
 {
@@ -65,10 +65,10 @@ fn count_in(line: &[u8]) -> Option<u64>
     if words.next()? != b"edges".as_slice() {
         return None;
     }
-    number_of(words.only()?)
+    parse_u64(words.sole()?)
 }
 
-// The edge on a line.
+/// Returns the edge on a line.
 fn edge_in(line: &[u8]) -> Option<Edge>
     ensures { result ≡ edge_of (words_of line.now) }
 {
@@ -76,13 +76,13 @@ fn edge_in(line: &[u8]) -> Option<Edge>
     if words.next()? != b"edge".as_slice() {
         return None;
     }
-    let from = TxnId(number_of(words.next()?)?);
-    let to = TxnId(number_of(words.next()?)?);
-    let kind = kind_of(words.only()?)?;
+    let from = TxnId(parse_u64(words.next()?)?);
+    let to = TxnId(parse_u64(words.next()?)?);
+    let kind = kind_of(words.sole()?)?;
     Some(Edge { from, to, kind })
 }
 
-// The kind of an edge by its name.
+/// Returns the kind of an edge by its name.
 fn kind_of(word: &[u8]) -> Option<EdgeKind>
     ensures { result ≡ look_up kind_words word.now }
 {
@@ -95,7 +95,7 @@ fn kind_of(word: &[u8]) -> Option<EdgeKind>
     }
 }
 
-// The verdict on a line.
+/// Returns the verdict on a line.
 fn verdict_in(alloc: Global, line: &[u8]) -> Result<Option<Verdict>, AllocError>
     ensures { IfOk result (λ verdict. verdict ≡ verdict_of (words_of line.now)) }
 {
@@ -114,14 +114,15 @@ fn verdict_in(alloc: Global, line: &[u8]) -> Result<Option<Verdict>, AllocError>
     }
 }
 
-// The members of a cycle.
+/// Returns the members of a cycle.
 fn members_in(alloc: Global, words: Words<'_>) -> Result<Option<Vec<TxnId>>, AllocError>
-    ensures { IfOk result (λ members. option_map (λ list. list.items) members ≡ each number_of words.entry) }
+    ensures { IfOk result (λ members. option_map (λ list. list.items) members
+        ≡ each parse_u64 words.entry) }
 {
     let mut rest = words;
     let mut members = Vec::new(alloc);
     while let Some(word) = rest.next() {
-        let Some(txn) = number_of(word) else {
+        let Some(txn) = parse_u64(word) else {
             return Ok(None);
         };
         members.push(TxnId(txn))?;
@@ -129,9 +130,10 @@ fn members_in(alloc: Global, words: Words<'_>) -> Result<Option<Vec<TxnId>>, All
     Ok(Some(members))
 }
 
-// Transactions with their ranks.
+/// Transactions with their ranks.
 fn ranks_in(alloc: Global, words: Words<'_>) -> Result<Option<Vec<(TxnId, u64)>>, AllocError>
-    ensures { IfOk result (λ ranks. option_map (λ list. list.items) ranks ≡ each rank_of words.entry) }
+    ensures { IfOk result (λ ranks. option_map (λ list. list.items) ranks
+        ≡ each rank_of words.entry) }
 {
     let mut rest = words;
     let mut ranks = Vec::new(alloc);
@@ -144,10 +146,10 @@ fn ranks_in(alloc: Global, words: Words<'_>) -> Result<Option<Vec<(TxnId, u64)>>
     Ok(Some(ranks))
 }
 
-// A transaction with its rank.
+/// Returns a transaction with its rank.
 fn rank_in(word: &[u8]) -> Option<(TxnId, u64)>
     ensures { result ≡ rank_of word.now }
 {
     let (txn, rank) = split_once(b':', word)?;
-    Some((TxnId(number_of(txn)?), number_of(rank)?))
+    Some((TxnId(parse_u64(txn)?), parse_u64(rank)?))
 }

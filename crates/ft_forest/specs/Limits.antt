@@ -1,4 +1,4 @@
--- What a forest allows where nobody asks for more (rules of this project).
+-- What a forest allows if nobody sets other limits (rules of this project).
 use Rattle.ft_forest.specs.declared.TheConstants.{DEFAULT_TRANSACTIONS, DEFAULT_DEPTH}
 use Rattle.ft_forest.specs.declared.limits.ForestLimits.{ForestLimits}
 

@@ -1,5 +1,5 @@
--- How the records of the transactions are linked, seen as functions of a place: what a forest
--- keeps, which no public contract cites.
+-- How the records of the transactions are linked, seen as functions of a place. This is the
+-- internal state of a forest, and no public contract cites it.
 use Rattle.std.specs.Prelude.{◌≡◌, ◌<◌, ◌≤◌, ◌+◌, ◌-◌, ◌/◌, ◌%◌, ◌==◌, ◌&&◌, ◌⊎◌, ℕ, zero, suc, Bool, true, false, Option, Some, None, is_some, List, map, length, slice_get, IsSome}
 use Rattle.std.specs.Option.{option_map}
 use Rattle.std.specs.Ordering.{nat_cmp}
@@ -14,10 +14,10 @@ use Rattle.ft_forest.specs.declared.record.LiveRecord.{LiveRecord}
 use Rattle.ft_forest.specs.declared.records.Records.{Records}
 use Rattle.ft_forest.specs.Transactions.{Transaction, Transactions, is_live, count_below}
 
--- The transaction at each place: its parent's place, what has become of it, and whether more is
--- kept of it. That is its depth, how many live children it has, the youngest of them, and its next
--- older and its next younger live sibling. The youngest of no transaction is the youngest live
--- top-level one.
+-- The transaction at each place: its parent's place, its state, and whether more is kept for it.
+-- The rest is its depth, the number of its live children, the youngest of them, and its next older
+-- and next younger live sibling. The youngest child without a parent is the youngest live top-level
+-- transaction.
 pub record Links : Type 0 where
   pub count : ℕ
   pub parent : ℕ → Option ℕ
@@ -29,7 +29,7 @@ pub record Links : Type 0 where
   pub older : ℕ → Option ℕ
   pub younger : ℕ → Option ℕ
 
--- what is kept of the live transactions alone, by their places
+-- what is kept only for the live transactions, by their places
 abbrev pub LiveRecords : Type 0
 LiveRecords = finite.FinMap nat_cmp LiveRecord
 
@@ -38,7 +38,7 @@ abbrev pub place_before : ℕ → Option ℕ
 place_before zero = None
 place_before (suc p) = Some p
 
--- the parent's place that a record's number tells
+-- the parent's place in a record's number
 abbrev pub parent_by : ℕ → Option ℕ
 parent_by n = place_before (n / 4)
 
@@ -48,7 +48,7 @@ state_at zero = Live
 state_at (suc zero) = Committed
 state_at (suc (suc _)) = Aborted
 
--- what has become of the transaction, as a record's number tells
+-- the transaction's state in a record's number
 abbrev pub state_by : ℕ → State
 state_by n = state_at (n % 4)
 
@@ -57,32 +57,32 @@ abbrev pub parent_from : Option ℕ → Option ℕ
 parent_from None = None
 parent_from (Some n) = parent_by n
 
--- what has become of it, if there is a record
+-- the state, if there is a record
 abbrev pub state_from : Option ℕ → Option State
 state_from None = None
 state_from (Some n) = Some (state_by n)
 
--- its depth, or 0
+-- the depth, or 0
 abbrev pub depth_from : Option LiveRecord → ℕ
 depth_from None = 0
 depth_from (Some r) = r.depth
 
--- how many live children it has, or 0
+-- the number of live children, or 0
 abbrev pub children_from : Option LiveRecord → ℕ
 children_from None = 0
 children_from (Some r) = r.children
 
--- the youngest of them, if there is a record and a child
+-- the youngest live child, if there is a record and a child
 abbrev pub youngest_from : Option LiveRecord → Option ℕ
 youngest_from None = None
 youngest_from (Some r) = r.youngest
 
--- its next older live sibling, if there is a record and a sibling
+-- the next older live sibling, if there is a record and a sibling
 abbrev pub older_from : Option LiveRecord → Option ℕ
 older_from None = None
 older_from (Some r) = r.older
 
--- its next younger live sibling, if there is a record and a sibling
+-- the next younger live sibling, if there is a record and a sibling
 abbrev pub younger_from : Option LiveRecord → Option ℕ
 younger_from None = None
 younger_from (Some r) = r.younger
@@ -92,7 +92,7 @@ abbrev pub youngest_by : Option ℕ → LiveRecords → Option ℕ → Option �
 youngest_by top live None = top
 youngest_by top live (Some p) = youngest_from (finite.get live p)
 
--- the links that these records tell, with the youngest at the top level
+-- the links that these records represent, with the youngest at the top level
 abbrev pub links_by : Option ℕ → List ℕ → LiveRecords → Links
 links_by top rs live = record {
   count = length rs;
@@ -106,7 +106,7 @@ links_by top rs live = record {
   younger = λ i. younger_from (finite.get live i);
 }
 
--- the links that the records of a forest tell
+-- the links that the records of a forest represent
 abbrev pub links_of : Records → Links
 links_of r = links_by r.youngest r.list.items r.live
 
@@ -136,12 +136,13 @@ abbrev pub put_at : {A : Type 0} → (ℕ → A) → Option ℕ → (A → A) �
 put_at f None g = f
 put_at f (Some p) g = put f p (g (f p))
 
--- the first where there is one, else the second
+-- the first value if there is something, else the second
 abbrev pub where_some : {A B : Type 0} → Option A → B → B → B
 where_some None some none = none
 where_some (Some x) some none = some
 
--- the siblings next to a gap, or the one above it, are linked over it
+-- the siblings on both sides of a gap are linked to each other; if there is no younger one, the
+-- older one is the youngest of the parent
 abbrev pub closed_links : Links → Option ℕ → Option ℕ → Option ℕ → Links
 closed_links s parent older younger = record s {
   youngest = where_some younger s.youngest (put_youngest s.youngest parent older);
@@ -149,7 +150,7 @@ closed_links s parent older younger = record s {
   younger = put_at s.younger older (λ _. younger);
 }
 
--- of the transaction at x no more is kept than of one that has ended
+-- for the transaction at x, only what an ended transaction has is kept
 abbrev pub forgotten_links : Links → ℕ → Links
 forgotten_links s x = record s {
   kept = put s.kept x false;
@@ -167,7 +168,7 @@ ended_links s x state = forgotten_links (closed_links (record s {
   children = put_at s.children (s.parent x) (λ n. n - 1);
 }) (s.parent x) (s.older x) (s.younger x)) x
 
--- a live transaction comes behind all others
+-- a live transaction is added after all others
 abbrev pub begun_links : Links → Option ℕ → ℕ → Links
 begun_links s parent depth = record {
   count = s.count + 1;
@@ -181,7 +182,7 @@ begun_links s parent depth = record {
   younger = put_at (put s.younger s.count None) (s.youngest parent) (λ _. Some s.count);
 }
 
--- i is live, and a child of p; of no p, it is live at the top level
+-- i is live, and a child of p; without p, it is live at the top level
 pub record IsSibling (s : Links) (p : Option ℕ) (i : ℕ) : Type 0 where
   pub parent : s.parent i ≡ p
   pub live : s.state i ≡ Some Live
@@ -210,8 +211,8 @@ abbrev pub DepthIs : Links → Option ℕ → ℕ → Type 0
 DepthIs s None d = d ≡ 1
 DepthIs s (Some p) d = d ≡ s.depth p + 1
 
--- the links tell the live siblings in order, how deep each live transaction stands, and of those
--- that have ended no more than the parent and the state
+-- The links have the live siblings in order and the depth of each live transaction. For an ended
+-- transaction, only the parent and the state are kept.
 pub record AreLinked (s : Links) : Type 0 where
   pub begun : (i : ℕ) → i < s.count → IsSome (s.state i)
   pub unbegun : (i : ℕ) → s.count ≤ i → s.state i ≡ None
@@ -232,11 +233,11 @@ number_at base i = base + 1 + i
 abbrev pub transaction_from : ℕ → ℕ → Transaction
 transaction_from base n = record { parent = option_map (number_at base) (parent_by n); state = state_by n }
 
--- the transactions that the records tell
+-- the transactions that the records represent
 abbrev pub transactions_of : ForestLimits → ℕ → Records → Transactions
 transactions_of limits base r = record { limits = limits; base = base; list = map (transaction_from base) r.list.items }
 
--- what a forest keeps of its records: they are linked so, and within the limits, which are sound
+-- the invariant of a forest's records: they are linked, and within the limits, which are allowed
 pub record AreRecords (limits : ForestLimits) (base : ℕ) (r : Records) : Type 0 where
   pub linked : AreLinked (links_of r)
   pub few : length r.list.items ≤ limits.transactions

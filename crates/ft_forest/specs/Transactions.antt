@@ -1,6 +1,6 @@
--- The transactions of a forest: how they stand above one another, and what has become of each. To
--- be above another is said by Forest of ft_history, at the parents that a forest keeps. (Moss is
--- J. E. B. Moss, Nested Transactions, MIT 1981; what names no source is a rule of this project.)
+-- The transactions of a forest: how they are nested, and the state of each. `Forest` of ft_history
+-- defines when a transaction is above another, by the parents in a forest. (Moss is J. E. B. Moss,
+-- Nested Transactions, MIT 1981. A definition that names no source is a rule of this project.)
 use Rattle.std.specs.Prelude.{◌≡◌, ◌≢◌, ◌<◌, ◌≤◌, ◌⊎◌, ◌+◌, ◌-◌, ◌==◌, ◌&&◌, ℕ, zero, suc, Bool, true, false, cond, nat_lt, Option, Some, None, List, [], length, slice_get, count_by}
 use Rattle.ft_history.specs.Forest.{above, is_some_and, map_or}
 use Rattle.ft_history.specs.Logs.{put}
@@ -8,13 +8,13 @@ use Rattle.ft_forest.specs.declared.limits.ForestLimits.{ForestLimits}
 use Rattle.ft_forest.specs.declared.state.State.{State}
 use Rattle.ft_forest.specs.declared.state.State.TheVariants.{Live, Committed, Aborted}
 
--- its parent, where it is a subtransaction, and what has become of it
+-- the parent, if it is a subtransaction, and the state
 pub record Transaction : Type 0 where
   pub parent : Option ℕ
   pub state : State
 
--- The transactions begun since a base, in the order of their numbers, which go
--- on from the base's last one, and what is allowed of them.
+-- The transactions begun since a base, in the order of their numbers, and their limits. The numbers
+-- continue from the base's last one.
 pub record Transactions : Type 0 where
   pub limits : ForestLimits
   pub base : ℕ
@@ -24,25 +24,25 @@ pub record Transactions : Type 0 where
 abbrev pub none_since : ForestLimits → ℕ → Transactions
 none_since limits base = record { limits = limits; base = base; list = [] }
 
--- the transaction of this number, where there is one since the base
+-- the transaction with this number, if there is one since the base
 abbrev pub transaction_in : Transactions → ℕ → Option Transaction
 transaction_in m t = cond (nat_lt m.base t) (slice_get m.list (t - (m.base + 1))) None
 
--- its parent, where it is there and has one
+-- the parent, if there is a transaction and it has one
 abbrev pub parent_of : Option Transaction → Option ℕ
 parent_of None = None
 parent_of (Some x) = x.parent
 
--- what has become of it, where it is there
+-- the state, if there is a transaction
 abbrev pub state_of : Option Transaction → Option State
 state_of None = None
 state_of (Some x) = Some x.state
 
--- the parent of the transaction of this number, where there is one and it has one
+-- the parent of the transaction with this number, if there is a transaction and it has one
 abbrev pub parent_in : Transactions → ℕ → Option ℕ
 parent_in m t = parent_of (transaction_in m t)
 
--- what has become of the transaction, where there is one of this number
+-- the state of the transaction with this number, if there is one
 abbrev pub state_in : Transactions → ℕ → Option State
 state_in m t = state_of (transaction_in m t)
 
@@ -60,12 +60,12 @@ is_live_state Live = true
 is_live_state Committed = false
 is_live_state Aborted = false
 
--- it is there, and has not ended
+-- there is a transaction, and it has not ended
 abbrev pub is_live : Option State → Bool
 is_live None = false
 is_live (Some state) = is_live_state state
 
--- within so many steps, how many stand on the way up from x, x itself among them
+-- how many transactions there are on the way up from x, within so many steps, including x itself
 abbrev pub depth_within : (ℕ → Option ℕ) → ℕ → ℕ → ℕ
 depth_within parent zero x = 1
 depth_within parent (suc n) x = map_or 1 (parent x) (λ p. suc (depth_within parent n p))
@@ -74,8 +74,8 @@ depth_within parent (suc n) x = map_or 1 (parent x) (λ p. suc (depth_within par
 abbrev pub depth_in : Transactions → ℕ → ℕ
 depth_in m t = depth_within (parent_in m) t t
 
--- x is live, and a child of the parent; without one, it is live at the top level (Moss: a parent
--- may not commit before its children have ended)
+-- x is live, and a child of the parent; without a parent, it is live at the top level (Moss: a
+-- parent may not commit before its children have ended)
 pub record IsLiveUnder (m : Transactions) (parent : Option ℕ) (x : ℕ) : Type 0 where
   pub child : parent_in m x ≡ parent
   pub live : state_in m x ≡ Some Live
@@ -84,12 +84,13 @@ pub record IsLiveUnder (m : Transactions) (parent : Option ℕ) (x : ℕ) : Type
 abbrev pub IsLiveChild : Transactions → ℕ → ℕ → Type 0
 IsLiveChild m t x = IsLiveUnder m (Some t) x
 
--- the youngest of these, which has the greatest number, if there is one
+-- the youngest live child, which has the greatest number, if there is one; without a parent, the
+-- youngest live top-level transaction
 abbrev pub IsYoungestChild : Transactions → Option ℕ → Option ℕ → Type 0
 IsYoungestChild m parent None = (x : ℕ) → IsLiveUnder m parent x → ⊥
 IsYoungestChild m parent (Some y) = IsLiveUnder m parent y × ((x : ℕ) → IsLiveUnder m parent x → x ≤ y)
 
--- the youngest of t's siblings that are older, if there is one
+-- the youngest of t's live siblings that are older, if there is one
 abbrev pub IsOlderSibling : Transactions → ℕ → Option ℕ → Type 0
 IsOlderSibling m t None = (x : ℕ) → IsLiveUnder m (parent_in m t) x → t ≤ x
 IsOlderSibling m t (Some y) = IsLiveUnder m (parent_in m t) y × (y < t) × ((x : ℕ) → IsLiveUnder m (parent_in m t) x → (x ≤ y) ⊎ (t ≤ x))
@@ -107,11 +108,12 @@ abbrev pub count_below : (ℕ → Bool) → ℕ → ℕ
 count_below test zero = 0
 count_below test (suc n) = count_below test n + cond (test n) 1 0
 
--- how many are live
+-- how many transactions are live
 abbrev pub live_count : Transactions → ℕ
 live_count m = count_below (λ x. is_live (state_in m x)) (suc (last_in m))
 
--- one more transaction, live, with the next number and this parent; all else is as it was
+-- there is one more live transaction, with the next number and this parent, and all else is
+-- unchanged
 pub record HasBegun (old new : Transactions) (up : Option ℕ) : Type 0 where
   pub limits : new.limits ≡ old.limits
   pub base : new.base ≡ old.base
@@ -119,7 +121,7 @@ pub record HasBegun (old new : Transactions) (up : Option ℕ) : Type 0 where
   pub parents : (x : ℕ) → parent_in new x ≡ put (parent_in old) (last_in old + 1) up x
   pub states : (x : ℕ) → state_in new x ≡ put (state_in old) (last_in old + 1) (Some Live) x
 
--- this has become of the transactions now, and nothing else has changed
+-- the transactions now have these states, and nothing else has changed
 pub record HaveStates (old new : Transactions) (now : ℕ → Option State) : Type 0 where
   pub limits : new.limits ≡ old.limits
   pub base : new.base ≡ old.base
@@ -127,12 +129,12 @@ pub record HaveStates (old new : Transactions) (now : ℕ → Option State) : Ty
   pub parents : (x : ℕ) → parent_in new x ≡ parent_in old x
   pub states : (x : ℕ) → state_in new x ≡ now x
 
--- t has ended, with this state, and all others have theirs (Moss: commit of a transaction)
+-- t has ended, with this state, and all others keep theirs (Moss: commit of a transaction)
 abbrev pub HasEnded : Transactions → Transactions → ℕ → State → Type 0
 HasEnded old new t state = HaveStates old new (put (state_in old) t (Some state))
 
--- t is aborted, with all that is live at or below it (Moss: the abort of a superior aborts its
--- live inferiors; what had committed stays committed)
+-- t is aborted, with everything live at or below it (Moss: the abort of a superior aborts its live
+-- inferiors; what had committed stays committed)
 abbrev pub HasAborted : Transactions → Transactions → ℕ → Type 0
 HasAborted old new t = HaveStates old new (λ x. cond (over_in old t x && is_live (state_in old x)) (Some Aborted) (state_in old x))
 
@@ -142,8 +144,8 @@ pub record IsNextToEnd (m : Transactions) (t x : ℕ) : Type 0 where
   pub live : state_in m x ≡ Some Live
   pub no_child : (y : ℕ) → IsLiveChild m x y → ⊥
 
--- An abort of t is on its way: since the old transactions nothing has changed but that some of the
--- live ones at or below t are aborted.
+-- An abort of t is in progress: the only change since the old transactions is that some of the live
+-- ones at or below t are aborted.
 pub record IsAborting (old now : Transactions) (t : ℕ) : Type 0 where
   pub limits : now.limits ≡ old.limits
   pub base : now.base ≡ old.base
@@ -151,7 +153,7 @@ pub record IsAborting (old now : Transactions) (t : ℕ) : Type 0 where
   pub parents : (x : ℕ) → parent_in now x ≡ parent_in old x
   pub states : (x : ℕ) → (state_in now x ≡ state_in old x) ⊎ ((over_in old t x ≡ true) × (state_in old x ≡ Some Live) × (state_in now x ≡ Some Aborted))
 
--- On the way of an abort of t, which one was aborted last: where that is not t, it stands
--- below t, and its parent is live.
+-- The transaction that an abort of t in progress aborted last, or at first t itself. If it is not
+-- t, it is below t, and its parent is live.
 abbrev pub IsLastOf : Transactions → ℕ → ℕ → Type 0
 IsLastOf m t last = last ≢ t → (over_in m t last ≡ true) × ((p : ℕ) → parent_in m last ≡ Some p → state_in m p ≡ Some Live)

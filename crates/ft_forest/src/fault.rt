@@ -4,22 +4,22 @@ use thiserror::Error;
 /// Why a call of a forest is refused. A refusal changes nothing.
 #[derive(Clone, Copy, Debug, PartialEq, Eq, Error)]
 pub enum ForestFault {
-    /// There was no memory left.
+    /// There was not enough memory.
     #[error("Memory")]
     Memory = 1,
     /// No transaction has this number since the base.
     #[error("NoTxn")]
     NoTxn = 2,
-    /// The transaction has committed or is aborted.
+    /// The transaction has committed or was aborted.
     #[error("Ended")]
     Ended = 3,
     /// The transaction has a live child.
     #[error("ChildLive")]
     ChildLive = 4,
-    /// There are as many transactions as there may be, or the last number is given.
+    /// There are as many transactions as the limits allow, or the last number is used up.
     #[error("Full")]
     Full = 7,
-    /// The transaction stands as deep as one may.
+    /// The transaction is as deep as the limits allow.
     #[error("Deep")]
     Deep = 8,
 }

@@ -8,7 +8,7 @@ ghost use Rattle.ft_forest.specs.declared.TheConstants.{MOST_TRANSACTIONS as mos
 ghost use Rattle.ft_forest.specs.declared.fault.ForestFault.{ForestFault as FaultOf};
 ghost use Rattle.ft_forest.specs.declared.fault.ForestFault.TheVariants.{Memory as MemoryFault};
 ghost use Rattle.ft_forest.specs.declared.state.State.TheVariants.{Live, Committed, Aborted};
-ghost use Rattle.ft_forest.specs.Transactions.{none_since, parent_in, state_in, last_in, over_in, depth_in, is_live_state, live_children_in, IsLiveChild, IsLiveUnder, HasBegun, HasEnded, HasAborted, IsNextToEnd, IsYoungestChild, IsOlderSibling, Transactions, live_count, IsAborting, IsLastOf};
+ghost use Rattle.ft_forest.specs.Transactions.{none_since, parent_in, state_in, last_in, over_in, depth_in, is_live_state, live_children_in, IsLiveChild, IsLiveUnder, HasBegun, HasEnded, HasAborted, IsNextToEnd, IsYoungestChild, Transactions, live_count, IsAborting, IsLastOf};
 ghost use Rattle.ft_forest.specs.Refusals.{refusal_of, begin_refusal, sub_refusal, commit_refusal, abort_refusal, IsRefusal};
 ghost use Rattle.ft_forest.specs.Records.{number_at};
 ghost use Rattle.ft_forest.specs.Places.{IsDepthBelow, number_of, HasChildrenBehind};
@@ -23,11 +23,10 @@ use ft_base::Memory;
 use std::alloc::Global;
 use std::marker::Model;
 
-/// The transactions begun since a base: how they stand above one another, and what has become of
-/// each.
+/// The transactions begun since a base: how they are nested, and the state of each.
 ///
-/// Their numbers go on from the base's last one. A call takes the same time however many
-/// transactions there are, except where it says so.
+/// Their numbers continue from the base's last one. A function takes the same time however many
+/// transactions there are, unless its comment says otherwise.
 pub struct Forest {
     limits: ForestLimits,
     base: u64,
@@ -56,10 +55,11 @@ impl Model for Forest {
 }
 
 impl Forest {
-    /// No transaction yet; `base` is the last number given before. Takes no memory.
+    /// Returns a forest without transactions. `base` is the last number that was given before.
+    /// Takes no memory.
     ///
-    /// The limits are the caller's (`ForestLimits::default()` are 100,000 transactions and a depth
-    /// of 64), up to 2^62 transactions, and any depth.
+    /// The caller chooses the limits: up to 2^62 transactions, and any depth.
+    /// `ForestLimits::default()` allows 100,000 transactions and a depth of 64.
     pub fn new(alloc: Global, base: u64, limits: ForestLimits) -> Forest
         requires { limits.transactions ≤ most_transactions }
         ensures { result ≡ none_since limits base }
@@ -71,15 +71,15 @@ impl Forest {
         }
     }
 
-    /// What the forest allows, as it was made.
+    /// Returns the limits that the forest was made with.
     pub fn limits(&self) -> ForestLimits
         ensures { result ≡ self.now.limits }
     {
         self.limits
     }
 
-    /// Forgets all transactions, none of which is live, and gives their memory back. Their numbers
-    /// go on from the last one, and the limits stay. Takes no memory.
+    /// Forgets all transactions and frees their memory. None of them may be live. The numbers
+    /// continue from the last one, and the limits stay. Takes no memory.
     pub fn restart(&mut self)
         requires { (x : ℕ) → state_in self.old x ≢ Some Live }
         ensures { self.new ≡ none_since self.old.limits (last_in self.old) }
@@ -89,14 +89,15 @@ impl Forest {
         self.records = Records::new(alloc);
     }
 
-    /// The last transaction's number; where there is none yet, the base's last one.
+    /// Returns the last transaction's number, or the base's last one if there is no transaction
+    /// yet.
     pub fn last(&self) -> u64
         ensures { result ≡ last_in self.now }
     {
         self.base + self.records.list.len() as u64
     }
 
-    /// What has become of a transaction, where there is one of this number since the base.
+    /// Returns the state of a transaction, if there is one with this number since the base.
     pub fn state(&self, txn: TxnId) -> Option<State>
         ensures { result ≡ state_in self.now txn }
     {
@@ -104,20 +105,22 @@ impl Forest {
         Some(self.records.state_of(place))
     }
 
-    /// The parent of a transaction; none of a top-level one, nor where there is no transaction of
-    /// this number.
+    /// Returns the parent of a transaction. Returns `None` for a top-level transaction, and if
+    /// there is no transaction with this number.
     pub fn parent(&self, txn: TxnId) -> Option<TxnId>
         ensures parent { result ≡ parent_in self.now txn }
 
-        // A parent was begun before its child, and lives as long.
+        // A parent was begun before its child, and is live if its child is.
         ensures forest { IsForest (parent_in self.now) }
-        ensures live { (x p : ℕ) → parent_in self.now x ≡ Some p → state_in self.now x ≡ Some Live → state_in self.now p ≡ Some Live }
+        ensures live { (x p : ℕ) → parent_in self.now x ≡ Some p → state_in self.now x ≡ Some Live
+            → state_in self.now p ≡ Some Live }
     {
         let place = place_of(self.base, self.records.list.len(), txn)?;
         numbered(self.base, self.records.parent_of(place))
     }
 
-    /// Whether a transaction is `upper` or one below it. Takes the time of the transaction's depth.
+    /// Returns whether a transaction is `upper` or below it. Takes the time of the transaction's
+    /// depth.
     pub fn is_below(&self, txn: TxnId, upper: TxnId) -> bool
         ensures { result ≡ over_in self.now upper txn }
     {
@@ -131,7 +134,8 @@ impl Forest {
         at == upper
     }
 
-    /// How many live children a transaction has; 0 where there is no transaction of this number.
+    /// Returns the number of live children of a transaction, 0 if there is no transaction with this
+    /// number.
     pub fn live_children(&self, txn: TxnId) -> u64
         ensures count { result ≡ live_children_in self.now txn }
         ensures some { 0 < result → (x : ℕ) × IsLiveChild self.now txn x }
@@ -143,8 +147,8 @@ impl Forest {
         }
     }
 
-    /// The youngest live child of a transaction; without one, the youngest live transaction at the
-    /// top level.
+    /// Returns the youngest live child of a transaction. Without a parent, it returns the youngest
+    /// live top-level transaction.
     pub fn youngest_child(&self, parent: Option<TxnId>) -> Option<TxnId>
         ensures { IsYoungestChild self.now parent result }
     {
@@ -157,23 +161,15 @@ impl Forest {
         }
     }
 
-    /// The next older live sibling of a live transaction, at the top level the next older live one
-    /// there.
-    pub fn older_sibling(&self, txn: TxnId) -> Option<TxnId>
-        requires { state_in self.now txn ≡ Some Live }
-        ensures { IsOlderSibling self.now txn result }
-    {
-        let place = place_of(self.base, self.records.list.len(), txn)?;
-        numbered(self.base, self.records.older_of(place))
-    }
-
-    /// All live transactions, in rising order.
+    /// Returns all live transactions, in rising order.
     ///
-    /// Takes the time to sort them, and no more stack for those that stand deep.
+    /// Takes the time to sort them. Deep transactions take no more stack than others.
     pub fn live(&self, alloc: Global) -> Result<Vec<TxnId>, Memory>
         ensures rising { IfOk result (λ live. IsStrictlyIncreasing live.items) }
-        ensures sound { IfOk result (λ live. (x : ℕ) → Contains live.items x → state_in self.now x ≡ Some Live) }
-        ensures all { IfOk result (λ live. (x : ℕ) → state_in self.now x ≡ Some Live → Contains live.items x) }
+        ensures sound { IfOk result
+            (λ live. (x : ℕ) → Contains live.items x → state_in self.now x ≡ Some Live) }
+        ensures all { IfOk result
+            (λ live. (x : ℕ) → state_in self.now x ≡ Some Live → Contains live.items x) }
     {
         let mut live = Vec::new(alloc);
         self.list_children(None, &mut live)?;
@@ -187,12 +183,14 @@ impl Forest {
         Ok(live)
     }
 
-    /// Lists the live children of the transaction at a place; without a place, what is live at the
-    /// top level.
+    /// Adds the live children of the transaction at a place to a list. Without a place, it adds the
+    /// live top-level transactions.
     fn list_children(&self, parent: Option<usize>, live: &mut Vec<TxnId>) -> Result<(), Memory>
-        requires fresh { (x : ℕ) → IsLiveUnder self.now (number_of self.now parent) x → Contains live.old.items x → ⊥ }
+        requires fresh { (x : ℕ) → IsLiveUnder self.now (number_of self.now parent) x
+            → Contains live.old.items x → ⊥ }
         requires once { IsDistinct ◌==◌ live.old.items }
-        ensures { OnOk result (HasChildrenBehind self.now (number_of self.now parent) live.old.items live.new.items) }
+        ensures { OnOk result (HasChildrenBehind self.now (number_of self.now parent) live.old.items
+            live.new.items) }
     {
         let mut next = self.records.youngest_of(parent);
         while let Some(place) = next {
@@ -202,15 +200,16 @@ impl Forest {
         Ok(())
     }
 
-    /// The next transaction that an abort ends: a live one at or below `txn` that has no live
-    /// child.
+    /// Returns the next transaction that an abort of `txn` ends: a live one at or below `txn` that
+    /// has no live child. Returns `None` if nothing at or below `txn` is live.
     ///
-    /// There is none where nothing at or below `txn` is live. Takes the time of its depth below
-    /// `txn`; who ends one after another asks at the parent of the one before, and takes the time
-    /// of all that are ended.
+    /// Takes the time of its depth below `txn`. A caller that ends one after another asks at the
+    /// parent of the one before. All these calls together take the time of all transactions that
+    /// are ended.
     pub fn next_to_end(&self, txn: TxnId) -> Option<TxnId>
         ensures next { IfSome result (λ next. IsNextToEnd self.now txn next) }
-        ensures none { IfNone result ((x : ℕ) → over_in self.now txn x ≡ true → state_in self.now x ≢ Some Live) }
+        ensures none { IfNone result ((x : ℕ) → over_in self.now txn x ≡ true
+            → state_in self.now x ≢ Some Live) }
     {
         let records = &self.records;
         let Ok(mut place) = self.live_place(txn) else {
@@ -222,9 +221,11 @@ impl Forest {
         Some(TxnId(self.base + 1 + place as u64))
     }
 
-    /// Refuses as `begin` would, for another cause than want of memory.
+    /// Returns the refusal of `begin`, except out of memory, and begins nothing.
     pub fn check_begin(&self) -> Result<(), ForestFault>
-        ensures { MatchResult result (λ _. begin_refusal self.now ≡ None) (λ fault. begin_refusal self.now ≡ Some fault) }
+        ensures { MatchResult result
+            (λ _. begin_refusal self.now ≡ None)
+            (λ fault. begin_refusal self.now ≡ Some fault) }
     {
         let count = self.records.list.len() as u64;
         if count >= self.limits.transactions || self.last() >= LAST_NUMBER {
@@ -235,21 +236,26 @@ impl Forest {
 
     /// Begins a top-level transaction, with the next number.
     ///
-    /// Refuses Full where there are as many since the base as the limits allow, or the number
-    /// 2^63 - 1 is given. Want of memory changes nothing.
+    /// Refuses with `Full` if there are as many transactions since the base as the limits allow. It
+    /// also does so if the number 2^63 - 1 is used up. If there is not enough memory, nothing has
+    /// changed.
     pub fn begin(&mut self) -> Result<TxnId, ForestFault>
         ensures begun { OnOk result (HasBegun self.old self.new None) }
         ensures number { IfOk result (λ txn. txn ≡ last_in self.old + 1) }
-        ensures refused { MatchResult result (λ _. begin_refusal self.old ≡ None) (λ fault. IsRefusal (begin_refusal self.old) fault) }
+        ensures refused { MatchResult result
+            (λ _. begin_refusal self.old ≡ None)
+            (λ fault. IsRefusal (begin_refusal self.old) fault) }
         ensures same { OnErr result (self.new ≡ self.old) }
     {
         self.check_begin()?;
         self.add(None, 1)
     }
 
-    /// Refuses as `sub` would, for another cause than want of memory.
+    /// Returns the refusal of `sub`, except out of memory, and begins nothing.
     pub fn check_sub(&self, txn: TxnId) -> Result<(), ForestFault>
-        ensures { MatchResult result (λ _. sub_refusal self.now txn ≡ None) (λ fault. sub_refusal self.now txn ≡ Some fault) }
+        ensures { MatchResult result
+            (λ _. sub_refusal self.now txn ≡ None)
+            (λ fault. sub_refusal self.now txn ≡ Some fault) }
     {
         self.room_below(txn)?;
         Ok(())
@@ -257,26 +263,29 @@ impl Forest {
 
     /// Begins a subtransaction, with the next number.
     ///
-    /// Refuses NoTxn, Ended, Deep where the parent stands as deep as the limits allow, and Full, in
-    /// this order. Want of memory changes nothing.
+    /// Refuses with `NoTxn`, `Ended`, `Deep` or `Full`, in this order. `Deep` means that the parent
+    /// is as deep as the limits allow. If there is not enough memory, nothing has changed.
     pub fn sub(&mut self, txn: TxnId) -> Result<TxnId, ForestFault>
         ensures begun { OnOk result (HasBegun self.old self.new (Some txn)) }
         ensures number { IfOk result (λ child. child ≡ last_in self.old + 1) }
-        ensures refused { MatchResult result (λ _. sub_refusal self.old txn ≡ None) (λ fault. IsRefusal (sub_refusal self.old txn) fault) }
+        ensures refused { MatchResult result
+            (λ _. sub_refusal self.old txn ≡ None)
+            (λ fault. IsRefusal (sub_refusal self.old txn) fault) }
         ensures same { OnErr result (self.new ≡ self.old) }
     {
         let (parent, depth) = self.room_below(txn)?;
         self.add(Some(parent), depth)
     }
 
-    /// Commits a transaction, relative to its parent: an abort above it takes its calls away all
-    /// the same.
+    /// Commits a transaction, relative to its parent: an abort above it still removes its calls.
     ///
-    /// Refuses NoTxn, Ended, and ChildLive where it has a live child, in this order. Takes no
-    /// memory.
+    /// Refuses with `NoTxn`, `Ended`, or `ChildLive` if it has a live child, in this order. Takes
+    /// no memory.
     pub fn commit(&mut self, txn: TxnId) -> Result<(), ForestFault>
         ensures committed { OnOk result (HasEnded self.old self.new txn Committed) }
-        ensures refused { MatchResult result (λ _. commit_refusal self.old txn ≡ None) (λ fault. commit_refusal self.old txn ≡ Some fault) }
+        ensures refused { MatchResult result
+            (λ _. commit_refusal self.old txn ≡ None)
+            (λ fault. commit_refusal self.old txn ≡ Some fault) }
         ensures same { OnErr result (self.new ≡ self.old) }
     {
         let place = self.live_place(txn)?;
@@ -287,14 +296,16 @@ impl Forest {
         Ok(())
     }
 
-    /// Aborts a transaction with all that is live below it, each before its parent; what had
-    /// committed stays committed.
+    /// Aborts a transaction and every live one below it, each before its parent. What had committed
+    /// stays committed.
     ///
-    /// Refuses NoTxn and Ended, in this order. Takes no memory, and the time of the live
+    /// Refuses with `NoTxn` and `Ended`, in this order. Takes no memory, and the time of the live
     /// transactions at or below it.
     pub fn abort(&mut self, txn: TxnId) -> Result<(), ForestFault>
         ensures aborted { OnOk result (HasAborted self.old self.new txn) }
-        ensures refused { MatchResult result (λ _. abort_refusal self.old txn ≡ None) (λ fault. abort_refusal self.old txn ≡ Some fault) }
+        ensures refused { MatchResult result
+            (λ _. abort_refusal self.old txn ≡ None)
+            (λ fault. abort_refusal self.old txn ≡ Some fault) }
         ensures same { OnErr result (self.new ≡ self.old) }
     {
         self.live_place(txn)?;
@@ -305,24 +316,30 @@ impl Forest {
         Ok(())
     }
 
-    /// Aborts the next transaction that an abort of `txn` ends, and answers it: a live one at or
-    /// below `txn` that has no live child. There is none where nothing at or below `txn` is live.
+    /// Aborts the next transaction that an abort of `txn` ends, and returns it: a live one at or
+    /// below `txn` that has no live child. Returns `None` if nothing at or below `txn` is live.
     ///
-    /// `last` is the one that was ended before, and at first `txn` itself. Takes no memory; all
-    /// together take the time of what is ended.
+    /// `last` is the one that was ended before, and at first `txn` itself. Takes no memory. All
+    /// these calls together take the time of all transactions that are ended.
     pub fn abort_next(&mut self, txn: TxnId, last: TxnId) -> Option<TxnId>
         requires { IsLastOf self.old txn last }
         ensures next { IfSome result (λ next. IsNextToEnd self.old txn next) }
-        ensures lowest { IfSome result (λ next. (x : ℕ) → over_in self.old next x ≡ true → state_in self.old x ≡ Some Live → x ≡ next) }
+        ensures lowest { IfSome result
+            (λ next. (x : ℕ) → over_in self.old next x ≡ true → state_in self.old x ≡ Some Live
+            → x ≡ next) }
         ensures aborted { IfSome result (λ next. HasEnded self.old self.new next Aborted) }
         ensures last { IfSome result (λ next. IsLastOf self.new txn next) }
         ensures fewer { IfSome result (λ _. live_count self.new < live_count self.old) }
-        ensures none { IfNone result ((x : ℕ) → over_in self.new txn x ≡ true → state_in self.new x ≢ Some Live) }
+        ensures none { IfNone result ((x : ℕ) → over_in self.new txn x ≡ true
+            → state_in self.new x ≢ Some Live) }
         ensures same { IfNone result (self.new ≡ self.old) }
 
-        // An abort that is on its way goes on, and in the end it has happened.
-        ensures way { IfSome result (λ _. (start : Transactions) → IsAborting start self.old txn → IsAborting start self.new txn) }
-        ensures done { IfNone result ((start : Transactions) → IsAborting start self.old txn → HasAborted start self.new txn) }
+        // An abort in progress continues, and in the end it has happened.
+        ensures way { IfSome result
+            (λ _. (start : Transactions) → IsAborting start self.old txn
+            → IsAborting start self.new txn) }
+        ensures done { IfNone result ((start : Transactions) → IsAborting start self.old txn
+            → HasAborted start self.new txn) }
     {
         let from = self.search_from(txn, last);
         let Some(next) = self.next_to_end(from) else {
@@ -332,14 +349,15 @@ impl Forest {
         Some(next)
     }
 
-    /// Where an abort of `txn` that ended `last` before looks for the next: at its parent, and at
-    /// first at `txn`.
+    /// Returns the transaction from which an abort of `txn` searches for the next one to end: the
+    /// parent of `last`, which it ended before, and at first `txn`.
     fn search_from(&self, txn: TxnId, last: TxnId) -> TxnId
         requires { IsLastOf self.now txn last }
         ensures below { over_in self.now txn result ≡ true }
         ensures live { result ≢ txn → state_in self.now result ≡ Some Live }
         ensures forest { IsForest (parent_in self.now) }
-        ensures live_parent { (x p : ℕ) → parent_in self.now x ≡ Some p → state_in self.now x ≡ Some Live → state_in self.now p ≡ Some Live }
+        ensures live_parent { (x p : ℕ) → parent_in self.now x ≡ Some p
+            → state_in self.now x ≡ Some Live → state_in self.now p ≡ Some Live }
     {
         match self.parent(last) {
             Some(parent) if last != txn => parent,
@@ -347,13 +365,16 @@ impl Forest {
         }
     }
 
-    /// The place of a transaction below which there may be one more, and how deep that would stand.
+    /// Returns the place of a transaction below which there may be one more, and the depth of that
+    /// one. Refuses as `sub` does, except out of memory.
     fn room_below(&self, txn: TxnId) -> Result<(usize, u64), ForestFault>
         ensures place { IfOk result (λ below. txn ≡ number_at self.now.base below.0) }
         ensures live { OnOk result (state_in self.now txn ≡ Some Live) }
         ensures deeper { IfOk result (λ below. IsDepthBelow self.now (Some below.0) below.1) }
         ensures room { OnOk result (begin_refusal self.now ≡ None) }
-        ensures refused { MatchResult result (λ _. sub_refusal self.now txn ≡ None) (λ fault. sub_refusal self.now txn ≡ Some fault) }
+        ensures refused { MatchResult result
+            (λ _. sub_refusal self.now txn ≡ None)
+            (λ fault. sub_refusal self.now txn ≡ Some fault) }
     {
         let parent = self.live_place(txn)?;
         let depth = self.records.depth_of(parent);
@@ -365,12 +386,14 @@ impl Forest {
         Ok((parent, depth + 1))
     }
 
-    /// The place of a live transaction.
+    /// Returns the place of a live transaction. Refuses with `NoTxn` or `Ended`.
     fn live_place(&self, txn: TxnId) -> Result<usize, ForestFault>
         ensures place { IfOk result (λ place. txn ≡ number_at self.now.base place) }
         ensures within { IfOk result (λ place. place < length self.now.list) }
         ensures live { OnOk result (state_in self.now txn ≡ Some Live) }
-        ensures refused { IfErr result (λ fault. (later : Option FaultOf) → refusal_of (state_in self.now txn) later ≡ Some fault) }
+        ensures refused { IfErr result
+            (λ fault. (later : Option FaultOf)
+            → refusal_of (state_in self.now txn) later ≡ Some fault) }
     {
         if txn.0 <= self.base {
             return Err(ForestFault::NoTxn);
@@ -385,12 +408,14 @@ impl Forest {
         Err(ForestFault::NoTxn)
     }
 
-    /// Begins a transaction where there may be one more.
+    /// Begins a transaction, if the limits allow one more. Out of memory is the only refusal.
     fn add(&mut self, parent: Option<usize>, depth: u64) -> Result<TxnId, ForestFault>
         requires room { begin_refusal self.old ≡ None }
-        requires live { (p : ℕ) → parent ≡ Some p → state_in self.old (number_at self.old.base p) ≡ Some Live }
+        requires live { (p : ℕ) → parent ≡ Some p
+            → state_in self.old (number_at self.old.base p) ≡ Some Live }
         requires deeper { IsDepthBelow self.old parent depth }
-        ensures begun { OnOk result (HasBegun self.old self.new (option_map (number_at self.old.base) parent)) }
+        ensures begun { OnOk result
+            (HasBegun self.old self.new (option_map (number_at self.old.base) parent)) }
         ensures number { IfOk result (λ txn. txn ≡ last_in self.old + 1) }
         ensures memory { IfErr result (λ fault. fault ≡ MemoryFault) }
         ensures same { OnErr result (self.new ≡ self.old) }
@@ -412,7 +437,7 @@ impl Forest {
     }
 }
 
-/// The place of a transaction, where there is one of this number.
+/// Returns the place of a transaction, if there is one with this number.
 fn place_of(base: u64, count: usize, txn: TxnId) -> Option<usize>
     ensures there { IfSome result (λ place. txn ≡ number_at base place) }
     ensures within { IfSome result (λ place. place < count) }
@@ -426,7 +451,7 @@ fn place_of(base: u64, count: usize, txn: TxnId) -> Option<usize>
     }
 }
 
-/// The place of a transaction that has begun since the base.
+/// Returns the place of a transaction that has begun since the base.
 fn begun_place(base: u64, txn: TxnId) -> usize
     requires { base < txn }
     ensures { txn ≡ number_at base result }
@@ -434,7 +459,7 @@ fn begun_place(base: u64, txn: TxnId) -> usize
     (txn.0 - base - 1) as usize
 }
 
-/// The number of the transaction at a place, if there is one.
+/// Returns the number of the transaction at a place, if there is a place.
 fn numbered(base: u64, place: Option<usize>) -> Option<TxnId>
     requires { ForSome place (λ p. number_at base p < 2 ^ 64) }
     ensures { result ≡ option_map (number_at base) place }

@@ -1,4 +1,4 @@
-//! Nested transactions: how they stand above one another, and what has become of each.
+//! Nested transactions: how they are nested, and the state of each.
 #![tactic(auto)]
 
 mod fault;
@@ -15,14 +15,13 @@ pub use limits::ForestLimits;
 pub use state::State;
 pub use txn::TxnId;
 
-/// How many transactions there may be since the base where nobody asks for more.
+/// How many transactions there may be since the base if nobody sets another limit.
 pub const DEFAULT_TRANSACTIONS: u64 = 100_000;
 
-/// How deep a transaction may stand where nobody asks for more.
+/// How deep a transaction may be if nobody sets another limit.
 pub const DEFAULT_DEPTH: u64 = 64;
 
-/// The most transactions since the base that a forest may be asked to allow, 2^62. (Any depth may
-/// be asked for.)
+/// The greatest limit of transactions since the base: 2^62. (The limit of depth may be any number.)
 pub const MOST_TRANSACTIONS: u64 = 4_611_686_018_427_387_904;
 
 /// The last number that a transaction may have.

@@ -1,5 +1,5 @@
-// What is kept of one transaction. Others are named by their places, which are in the order of
-// their numbers.
+// What is kept for one transaction. It refers to other transactions by their places, which are in
+// the order of their numbers.
 ghost use Rattle.std.specs.Prelude.{◌≡◌, ◌<◌, ◌+◌, ◌^◌, None};
 ghost use Rattle.std.specs.Option.{ForSome};
 ghost use Rattle.ft_forest.specs.declared.state.State.TheVariants.{Live};
@@ -7,25 +7,25 @@ ghost use Rattle.ft_forest.specs.Records.{parent_by, state_by};
 
 use crate::state::State;
 
-// What is kept of each, also once it has ended, in one number: four times its parent's place and
-// one more (0 at the top level), and the discriminant of its state.
+/// What is kept for each transaction, even after it has ended, in one number. The number is the
+/// discriminant of its state, plus 4 times its parent's place plus one (0 at the top level).
 #[derive(Clone, Copy)]
 pub struct Record(pub u64);
 
-// What is kept besides of a live one.
+/// What is kept in addition for a live transaction.
 #[derive(Clone, Copy)]
 pub struct LiveRecord {
     pub depth: u64,
-    // How many live children it has, and the youngest of them.
+    /// How many live children it has, and the youngest of them.
     pub children: u64,
     pub youngest: Option<usize>,
-    // Its next live siblings. At the top level all are siblings.
+    /// Its next live siblings. At the top level, all transactions are siblings.
     pub older: Option<usize>,
     pub younger: Option<usize>,
 }
 
 impl Record {
-    // A live transaction below this parent.
+    /// Returns the record of a live transaction with this parent.
     pub fn begun(parent: Option<usize>) -> Record
         requires { ForSome parent (λ p. p + 1 < 2 ^ 62) }
         ensures parent { parent_by result.0 ≡ parent }
@@ -38,7 +38,7 @@ impl Record {
         Record(4 * above + State::Live as u64)
     }
 
-    // Its parent's place, where it has a parent.
+    /// Returns the place of its parent, if it has one.
     pub fn parent(self) -> Option<usize>
         ensures { result ≡ parent_by self.0 }
     {
@@ -50,7 +50,7 @@ impl Record {
         }
     }
 
-    // What has become of it.
+    /// Returns its state.
     pub fn state(self) -> State
         ensures { result ≡ state_by self.0 }
     {
@@ -61,7 +61,7 @@ impl Record {
         }
     }
 
-    // The same with another state.
+    /// Returns the record with another state.
     pub fn with_state(self, state: State) -> Record
         ensures parent { parent_by result.0 ≡ parent_by self.0 }
         ensures state { state_by result.0 ≡ state }
@@ -71,7 +71,7 @@ impl Record {
 }
 
 impl LiveRecord {
-    // One that has no child yet, and no younger sibling.
+    /// Returns the record of a live transaction without a child and without a younger sibling.
     pub fn begun(depth: u64, older: Option<usize>) -> LiveRecord
         ensures depth { result.depth ≡ depth }
         ensures children { result.children ≡ 0 }

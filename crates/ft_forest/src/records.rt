@@ -9,8 +9,8 @@ use crate::state::State;
 use ft_base::{Memory, PagedList, PagedTable};
 use std::alloc::Global;
 
-// All transactions since the base, in order, what is kept besides of the live ones, by their
-// places, and the youngest live one at the top level.
+/// All transactions since the base in order, what is kept in addition for the live ones by their
+/// places, and the youngest live top-level one.
 #[derive(Drop)]
 pub struct Records {
     pub youngest: Option<usize>,
@@ -19,7 +19,7 @@ pub struct Records {
 }
 
 impl Records {
-    // No transaction. Takes no memory.
+    /// Returns records of no transaction. Takes no memory.
     pub fn new(alloc: Global) -> Records
         ensures links { links_of result ≡ no_links }
         ensures list { result.list.items ≡ [] }
@@ -31,14 +31,17 @@ impl Records {
         }
     }
 
-    // Puts a live transaction behind all others, as the youngest child of its parent.
+    /// Adds a live transaction after all others, as the youngest child of its parent. If there is
+    /// not enough memory, nothing has changed.
     pub fn begin(&mut self, parent: Option<usize>, depth: u64) -> Result<(), Memory>
         requires few { length self.old.list.items < 2 ^ 62 }
         requires parent { ForSome parent (λ p. p < length self.old.list.items) }
         requires kept { ForSome parent (λ p. (links_of self.old).kept p ≡ true) }
         requires children { (p : ℕ) → (links_of self.old).children p < 2 ^ 63 }
-        requires youngest { ForSome ((links_of self.old).youngest parent) (λ y. (links_of self.old).kept y ≡ true) }
-        ensures ok { OnOk result (links_of self.new ≡ begun_links (links_of self.old) parent depth) }
+        requires youngest { ForSome
+            ((links_of self.old).youngest parent) (λ y. (links_of self.old).kept y ≡ true) }
+        ensures ok { OnOk result (links_of self.new
+            ≡ begun_links (links_of self.old) parent depth) }
         ensures same_list { OnErr result (self.new.list.items ≡ self.old.list.items) }
         ensures same_youngest { OnErr result (self.new.youngest ≡ self.old.youngest) }
         ensures same_live { OnErr result (self.new.live ≡ self.old.live) }
@@ -56,13 +59,16 @@ impl Records {
         Ok(())
     }
 
-    // Ends the live transaction at a place.
+    /// Ends the live transaction at a place.
     pub fn end(&mut self, place: usize, state: State)
         requires there { place < length self.old.list.items }
         requires kept { (links_of self.old).kept place ≡ true }
-        requires parent { ForSome ((links_of self.old).parent place) (λ p. (links_of self.old).kept p ≡ true) }
-        requires older { ForSome ((links_of self.old).older place) (λ p. (links_of self.old).kept p ≡ true) }
-        requires younger { ForSome ((links_of self.old).younger place) (λ p. (links_of self.old).kept p ≡ true) }
+        requires parent { ForSome
+            ((links_of self.old).parent place) (λ p. (links_of self.old).kept p ≡ true) }
+        requires older { ForSome ((links_of self.old).older place) (λ p. (links_of self.old).kept p
+            ≡ true) }
+        requires younger { ForSome
+            ((links_of self.old).younger place) (λ p. (links_of self.old).kept p ≡ true) }
         ensures { links_of self.new ≡ ended_links (links_of self.old) place state }
     {
         let LiveRecord { older, younger, .. } = self.live.get(place as u64).unwrap();
@@ -72,11 +78,15 @@ impl Records {
         self.forget(place);
     }
 
-    // Links what stands on both sides of a gap between siblings.
+    /// Links the siblings on both sides of a gap to each other.
     fn close_gap(&mut self, older: Option<usize>, younger: Option<usize>)
         requires older { ForSome older (λ p. (links_of self.old).kept p ≡ true) }
         requires younger { ForSome younger (λ p. (links_of self.old).kept p ≡ true) }
-        ensures { links_of self.new ≡ (let s = links_of self.old in record s { older = put_at s.older younger (λ _. older); younger = put_at s.younger older (λ _. younger) }) }
+        ensures { links_of self.new
+            ≡ (let s = links_of self.old in record s {
+              older = put_at s.older younger (λ _. older);
+              younger = put_at s.younger older (λ _. younger);
+            }) }
     {
         if let Some(sibling) = younger {
             self.set_older(sibling, older);
@@ -86,7 +96,7 @@ impl Records {
         }
     }
 
-    // The parent's place, where there is a parent.
+    /// Returns the place of a transaction's parent, if it has one.
     pub fn parent_of(&self, place: usize) -> Option<usize>
         requires { place < length self.now.list.items }
         ensures { result ≡ (links_of self.now).parent place }
@@ -94,7 +104,7 @@ impl Records {
         Record(self.list.get(place)).parent()
     }
 
-    // What has become of a transaction.
+    /// Returns the state of a transaction.
     pub fn state_of(&self, place: usize) -> State
         requires { place < length self.now.list.items }
         ensures { Some result ≡ (links_of self.now).state place }
@@ -102,14 +112,14 @@ impl Records {
         Record(self.list.get(place)).state()
     }
 
-    // Whether a transaction is live.
+    /// Returns whether a transaction is live.
     pub fn is_live(&self, place: usize) -> bool
         ensures { result ≡ (links_of self.now).kept place }
     {
         self.live.get(place as u64).is_some()
     }
 
-    // How deep a live transaction stands; 0 if it is not live.
+    /// Returns the depth of a live transaction, 0 if it is not live.
     pub fn depth_of(&self, place: usize) -> u64
         ensures { result ≡ (links_of self.now).depth place }
     {
@@ -119,7 +129,7 @@ impl Records {
         }
     }
 
-    // How many live children a transaction has.
+    /// Returns the number of live children of a transaction, 0 if it is not live.
     pub fn children_of(&self, place: usize) -> u64
         ensures { result ≡ (links_of self.now).children place }
     {
@@ -129,7 +139,8 @@ impl Records {
         }
     }
 
-    // The youngest live child of a transaction, or the youngest live one at the top level.
+    /// Returns the youngest live child of a transaction. Without a parent, it returns the youngest
+    /// live top-level transaction.
     pub fn youngest_of(&self, parent: Option<usize>) -> Option<usize>
         ensures { result ≡ (links_of self.now).youngest parent }
     {
@@ -139,18 +150,23 @@ impl Records {
         }
     }
 
-    // The next older sibling of a live transaction.
+    /// Returns the next older live sibling of a live transaction.
     pub fn older_of(&self, place: usize) -> Option<usize>
         ensures { result ≡ (links_of self.now).older place }
     {
         self.live.get(place as u64)?.older
     }
 
-    // One more live child, the youngest.
+    /// Counts one more live child, and makes it the youngest.
     fn add_child(&mut self, parent: Option<usize>, child: usize)
         requires kept { ForSome parent (λ p. (links_of self.old).kept p ≡ true) }
         requires few { (p : ℕ) → (links_of self.old).children p < 2 ^ 63 }
-        ensures { links_of self.new ≡ (let s = links_of self.old in record s { children = put_at s.children parent (λ n. n + 1); youngest = put_youngest s.youngest parent (Some child) }) }
+        ensures { links_of self.new
+            ≡ (let s = links_of self.old in
+            record s {
+              children = put_at s.children parent (λ n. n + 1);
+              youngest = put_youngest s.youngest parent (Some child);
+            }) }
     {
         match parent {
             Some(place) => {
@@ -163,10 +179,15 @@ impl Records {
         }
     }
 
-    // One live child less, which had these siblings.
+    /// Counts one live child less, which had these siblings.
     fn take_child(&mut self, parent: Option<usize>, older: Option<usize>, younger: Option<usize>)
         requires { ForSome parent (λ p. (links_of self.old).kept p ≡ true) }
-        ensures { links_of self.new ≡ (let s = links_of self.old in record s { children = put_at s.children parent (λ n. n - 1); youngest = where_some younger s.youngest (put_youngest s.youngest parent older) }) }
+        ensures { links_of self.new
+            ≡ (let s = links_of self.old in
+            record s {
+              children = put_at s.children parent (λ n. n - 1);
+              youngest = where_some younger s.youngest (put_youngest s.youngest parent older);
+            }) }
     {
         match younger {
             Some(_) => self.take_older_child(parent),
@@ -174,10 +195,12 @@ impl Records {
         }
     }
 
-    // One live child less, which was not the youngest.
+    /// Counts one live child less, which was not the youngest.
     fn take_older_child(&mut self, parent: Option<usize>)
         requires { ForSome parent (λ p. (links_of self.old).kept p ≡ true) }
-        ensures { links_of self.new ≡ (let s = links_of self.old in record s { children = put_at s.children parent (λ n. n - 1) }) }
+        ensures { links_of self.new
+            ≡ (let s = links_of self.old in
+            record s { children = put_at s.children parent (λ n. n - 1) }) }
     {
         if let Some(place) = parent {
             let mut record = self.live.get(place as u64).unwrap();
@@ -186,10 +209,15 @@ impl Records {
         }
     }
 
-    // One live child less, which was the youngest, with this next older sibling.
+    /// Counts one live child less, which was the youngest and had this next older sibling.
     fn take_youngest(&mut self, parent: Option<usize>, older: Option<usize>)
         requires { ForSome parent (λ p. (links_of self.old).kept p ≡ true) }
-        ensures { links_of self.new ≡ (let s = links_of self.old in record s { children = put_at s.children parent (λ n. n - 1); youngest = put_youngest s.youngest parent older }) }
+        ensures { links_of self.new
+            ≡ (let s = links_of self.old in
+            record s {
+              children = put_at s.children parent (λ n. n - 1);
+              youngest = put_youngest s.youngest parent older;
+            }) }
     {
         match parent {
             Some(place) => {
@@ -202,36 +230,41 @@ impl Records {
         }
     }
 
-    // Puts the state of a transaction, and answers its parent's place.
+    /// Sets the state of a transaction, and returns its parent's place.
     fn set_state(&mut self, place: usize, state: State) -> Option<usize>
         requires { place < length self.old.list.items }
         ensures parent { result ≡ (links_of self.old).parent place }
-        ensures state { links_of self.new ≡ (let s = links_of self.old in record s { state = put s.state place (Some state) }) }
+        ensures state { links_of self.new
+            ≡ (let s = links_of self.old in record s { state = put s.state place (Some state) }) }
     {
         let record = Record(self.list.get(place));
         self.list.set(place, record.with_state(state).0);
         record.parent()
     }
 
+    /// Sets the next older sibling of a live transaction.
     fn set_older(&mut self, place: usize, older: Option<usize>)
         requires { (links_of self.old).kept place ≡ true }
-        ensures { links_of self.new ≡ (let s = links_of self.old in record s { older = put s.older place older }) }
+        ensures { links_of self.new
+            ≡ (let s = links_of self.old in record s { older = put s.older place older }) }
     {
         let mut record = self.live.get(place as u64).unwrap();
         record.older = older;
         self.live.set(place as u64, record);
     }
 
+    /// Sets the next younger sibling of a live transaction.
     fn set_younger(&mut self, place: usize, younger: Option<usize>)
         requires { (links_of self.old).kept place ≡ true }
-        ensures { links_of self.new ≡ (let s = links_of self.old in record s { younger = put s.younger place younger }) }
+        ensures { links_of self.new
+            ≡ (let s = links_of self.old in record s { younger = put s.younger place younger }) }
     {
         let mut record = self.live.get(place as u64).unwrap();
         record.younger = younger;
         self.live.set(place as u64, record);
     }
 
-    // Lets go what is kept of a live transaction alone.
+    /// Removes what is kept only for a live transaction.
     fn forget(&mut self, place: usize)
         ensures { links_of self.new ≡ forgotten_links (links_of self.old) place }
     {

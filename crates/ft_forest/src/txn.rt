@@ -3,7 +3,8 @@ use std::marker::Model;
 
 /// The number of a transaction. Numbers are given one after another, and never again.
 ///
-/// Any number may be asked for; one that no transaction has is refused where it is used.
+/// A caller may pass any number. The function that uses it refuses a number that no transaction
+/// has.
 #[derive(Clone, Copy, Debug, PartialEq, Eq, PartialOrd, Ord)]
 pub struct TxnId(pub u64);
 

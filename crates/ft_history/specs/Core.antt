@@ -13,17 +13,17 @@ use Rattle.ft_history.specs.Legal.{outcome, Legal}
 use Rattle.ft_history.specs.Ledger.{asker_of, lists}
 
 module _ (C : Calls) where
-  -- a call that can be taken back, with its inverse (Moss, state restoration)
+  -- a call that can be undone, with its inverse (Moss, state restoration)
   pub record Entry : Type 0 where
     pub done : Done C
     pub inverse : C.Inverse
 
-  -- the inverses of a list are put to the store, from the newest on
+  -- the store after the inverses of a list are put to it, from the newest on
   abbrev pub take_back : List Entry → C.Store → C.Store
   take_back [] s = s
   take_back (e ∷ es) s = take_back es (C.revert s e.inverse)
 
-  -- each of them may be put there when its turn comes
+  -- each of these inverses may be put to the store when its turn comes
   abbrev pub MayTakeBack : List Entry → C.Store → Type 0
   MayTakeBack [] s = Unit {0}
   MayTakeBack (e ∷ es) s = C.MayRevert s e.inverse × MayTakeBack es (C.revert s e.inverse)
@@ -33,16 +33,16 @@ module _ (C : Calls) where
     pub store : C.Store
     pub log : ℕ → List Entry
 
-  -- a granted call is made, and its inverse is kept
+  -- the machine after a granted call: the call is made, and its inverse is kept
   abbrev pub grant : Machine → Done C → Machine
   grant m c = record { store = C.act m.store c.call; log = pushed m.log c.asker (record { done = c; inverse = C.inverse m.store c.call }) }
 
-  -- the newest inverse of the list is put to the store
+  -- the store after the newest inverse of the list is put to it
   abbrev pub take_newest : List Entry → C.Store → C.Store
   take_newest [] s = s
   take_newest (e ∷ es) s = C.revert s e.inverse
 
-  -- the newest of the asker's list is taken back
+  -- the machine after the newest call of the asker's list is undone
   abbrev pub undo : Machine → Option ℕ → Machine
   undo m None = m
   undo m (Some t) = record { store = take_newest (m.log t) m.store; log = popped m.log (Some t) }
@@ -59,12 +59,12 @@ module _ (C : Calls) where
     log = emptied (over C h) (machine base h).log t;
   }
 
-  -- the inverses that the lists have for c revert it, from what it left of the store s
+  -- the inverses that the lists have for c revert it, if it was made at the store s
   abbrev pub AreInverses : (ℕ → List Entry) → C.Store → Done C → Type 0
   AreInverses log s c = (u : C.Inverse) (t : ℕ) → In (record { done = c; inverse = u }) (log t) → Reverts C s c.call c.accesses u
 
-  -- A live transaction's call is made in the core's store s, with the inverse
-  -- u, where nobody is in the way.
+  -- A live transaction's call can be made in the core's store s, with the inverse u, and nothing
+  -- blocks it.
   pub record IsMade (base : Base C) (h : List (Event C)) (s : C.Store) (c : Done C) (u : C.Inverse) : Type 0 where
     pub live : IsLive C base.transaction h c.asker
     pub next : last_stamp C base.stamp h < number C c
@@ -73,9 +73,9 @@ module _ (C : Calls) where
     pub unblocked : blockers_of C h c.asker c.accesses ≡ []
     pub inverse : Reverts C s c.call c.accesses u
 
-  -- A sweep hides more files, that nothing stored names and no lock covers: it blanks their
-  -- cells and changes no other (POSIX.1-2017, unlink and close: a file without a name and
-  -- without an open description is gone).
+  -- A sweep hides more files, which nothing stored names and no lock covers. It blanks their cells
+  -- and changes no other cell (POSIX.1-2017, unlink and close: a file without a name and without an
+  -- open description is gone).
   pub record IsSweep (first : ℕ) (h : List (Event C)) (hidden more : C.File → Bool) (s new : C.Store) : Type 0 where
     pub kept : (i : C.File) → hidden i ≡ true → more i ≡ true
     pub old : (a : C.Call) → last_stamp C first h < C.stamp a → more (C.own a) ≡ false
@@ -88,16 +88,16 @@ module _ (C : Calls) where
   abbrev pub checkpoint : Base C → List (Event C) → C.Store → Base C
   checkpoint base h s = record { store = s; transaction = last_transaction C base.transaction h; stamp = last_stamp C base.stamp h }
 
-  -- What a core keeps, with the files that its sweeps dropped hidden.
+  -- The invariant of a core, where the files that its sweeps dropped are hidden.
   pub record IsCore (base : Base C) (h : List (Event C)) (hidden : C.File → Bool) (s : C.Store) (log : ℕ → List Entry) : Type 0 where
     pub legal : Legal C base h
     -- The store is that of the standing calls, without the hidden files.
     pub store : Hides C hidden (outcome C base h) s
-    -- The lists are the ledger's.
+    -- The lists are those of the ledger.
     pub listed : (t : ℕ) → map (λ e. e.done) (log t) ≡ lists C h t
-    -- Each inverse in them reverts its call.
+    -- Each inverse in the lists reverts its call.
     pub inverses : Along C (AreInverses log) base.store (standing C h)
-    -- What an owned call touched, its locks protect from the sweep.
+    -- What a standing call with an owner touched is not hidden: its locks protect it from a sweep.
     pub spared : (c : Done C) (y : ℕ) → In c (standing C h) → owner_of C h c.asker ≡ Some y → Unseen C hidden c.accesses
     -- A new file is not hidden.
     pub old : (a : C.Call) → last_stamp C base.stamp h < C.stamp a → hidden (C.own a) ≡ false

@@ -1,5 +1,5 @@
--- One legal history of the tiny tree with a commit, an undo and an abort, amid the
--- calls of another transaction.
+-- One legal history of the tiny tree with a commit, an undo and an abort, amid the calls of another
+-- transaction.
 use Rattle.std.specs.Prelude.{ℕ, Some, None, List, [], ◌∷◌}
 use Rattle.ft_laws.specs.Calls.{Done, made}
 use Rattle.ft_laws.specs.Tiny.{What, empty, tiny_calls}
@@ -12,7 +12,7 @@ use Rattle.ft_history.specs.Legal.{outcome}
 abbrev pub Events : Type 0
 Events = List (Event tiny_calls)
 
--- from the empty tree
+-- the empty tree, with 0 as the last transaction and 1 as the last stamp
 abbrev pub start : Base tiny_calls
 start = record { store = empty; transaction = 0; stamp = 1 }
 
@@ -40,7 +40,7 @@ child_committed = Commit 2 ∷ Call neighbour ∷ with_directory
 abbrev pub with_file : Events
 with_file = Call (asked child_committed 1 4 (Create (Some 0) 2)) ∷ child_committed
 
--- undoes that, and aborts, and 3 commits: seven steps after the begins,
--- and nothing of 1 and 2 is left.
+-- then 1 undoes that and aborts, and 3 commits: seven steps after the begins, and nothing of 1 and
+-- 2 is left.
 abbrev pub interleaved : Events
 interleaved = Commit 3 ∷ Abort 1 ∷ Undo 4 ∷ with_file

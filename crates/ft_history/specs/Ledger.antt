@@ -1,4 +1,4 @@
--- The lists of what can be taken back.
+-- The lists of what can be undone.
 use Rattle.std.specs.Prelude.{ℕ, cond, ◌==◌, Option, Some, None, List, [], ◌∷◌}
 use Rattle.ft_laws.specs.Calls.{Calls, Done}
 use Rattle.ft_history.specs.Logs.{pushed, popped, handed, emptied}
@@ -12,9 +12,9 @@ module _ (C : Calls) where
   asker_of (Call c ∷ h) k = cond (k == number C c) (Some c.asker) (asker_of h k)
   asker_of (other ∷ h) k = asker_of h k
 
-  -- The lists in log order, newest first, by what happened alone: a grant adds to the asker's, an
-  -- undo takes its newest, a commit places the child's behind the parent's, an abort empties those
-  -- of all at or below it (a rule of this project).
+  -- The lists in log order, newest first, from the events alone. A grant adds to the asker's list,
+  -- and an undo removes its newest. A commit adds the child's list to its parent's, as newer. An
+  -- abort empties the lists of all transactions at or below it (a rule of this project).
   abbrev pub lists : List (Event C) → ℕ → List (Done C)
   lists [] = λ t. []
   lists (Begin n p ∷ h) = lists h

@@ -8,20 +8,20 @@ use Rattle.ft_history.specs.Locks.{blockers_of}
 use Rattle.ft_history.specs.Undoing.{MayUndo}
 
 module _ (C : Calls) where
-  -- the store that the standing calls leave, made one after another from the base: no
-  -- locks, no logs, no transactions
+  -- the store that the standing calls leave, made one after another from the base: no locks, no
+  -- logs, no transactions
   abbrev pub outcome : Base C → List (Event C) → C.Store
   outcome base h = run C base.store (standing C h)
 
-  -- A transaction has the next number, and its parent, where it has one, is live.
+  -- A new transaction has the next number. If it has a parent, the parent is live.
   pub record MayBegin (first : ℕ) (h : List (Event C)) (n : ℕ) (p : Option ℕ) : Type 0 where
     pub next : n ≡ suc (last_transaction C first h)
     pub live : (q : ℕ) → p ≡ Some q → IsLive C first h q
 
-  -- A call is granted only if its asker is live and nobody is in the way. Its stamp is new and
-  -- numbers nothing at the base, and its accesses and reply are those that it has after the
-  -- standing calls. (Only if: a stricter rule makes fewer histories legal, and all that is said of
-  -- legal histories holds of it.)
+  -- A call is granted only if its asker is live and nothing blocks it. Its stamp is new and numbers
+  -- nothing at the base. Its accesses and reply are those that it has after the standing calls.
+  -- (Only if: a stricter rule makes fewer histories legal, and every claim about legal histories
+  -- still holds.)
   pub record MayGrant (base : Base C) (h : List (Event C)) (c : Done C) : Type 0 where
     pub live : IsLive C base.transaction h c.asker
     pub next : last_stamp C base.stamp h < number C c
@@ -29,14 +29,14 @@ module _ (C : Calls) where
     pub fits : Fits C (outcome base h) c
     pub unblocked : blockers_of C h c.asker c.accesses ≡ []
 
-  -- A transaction commits only when it has no live child (Moss: a parent may not commit
-  -- before its children have ended).
+  -- A transaction commits only if it has no live child (Moss: a parent may not commit before its
+  -- children have ended).
   pub record MayCommit (first : ℕ) (h : List (Event C)) (t : ℕ) : Type 0 where
     pub live : IsLive C first h t
     pub no_child : live_children C first h t ≡ []
 
-  -- An abort ends any live transaction, with what is live below it (Moss: the abort of a
-  -- superior undoes all below it).
+  -- The event may come next. An abort may end any live transaction, with whatever is live below it
+  -- (Moss: the abort of a superior undoes all below it).
   abbrev pub Allowed : Base C → List (Event C) → Event C → Type 0
   Allowed base h (Begin n p) = MayBegin base.transaction h n p
   Allowed base h (Call c) = MayGrant base h c

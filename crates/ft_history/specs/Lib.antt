@@ -1,3 +1,4 @@
+-- What callers cite.
 pub mod Logs
 pub mod Forest
 pub mod History

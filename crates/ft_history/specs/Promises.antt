@@ -16,7 +16,7 @@ use Rattle.ft_history.specs.Ledger.{lists}
 use Rattle.ft_history.specs.Orders.{IsNested, IsInFront, IsAbortOrder}
 use Rattle.ft_history.specs.Core.{Entry, take_back, MayTakeBack, machine, IsMade, IsSweep, checkpoint, IsCore}
 
--- ys are those who pass the test, each once and in the order of their numbers
+-- ys are the transactions that pass the test, each once and in the order of their numbers
 pub record AreThose (test : ℕ → Bool) (ys : List ℕ) : Type 0 where
   pub rising : Pairs (λ x y. x < y) ys
   pub exact : (y : ℕ) → In y ys ↔ (test y ≡ true)
@@ -28,43 +28,42 @@ module _ (C : Calls) where
 
   -- the store is that of the standing calls alone
   pub record IsHeadline (base : Base C) (h : List (Event C)) : Type 0 where
-    -- The store that was changed in place is that of the standing calls alone, made one
-    -- after another from the base.
+    -- The store that was changed in place is that of the standing calls alone, made one after
+    -- another from the base.
     pub store : Same C (outcome C base h) (machine C base h).store
-    -- Each of them then has the accesses and the reply that were recorded.
+    -- Each standing call then has its recorded accesses and reply.
     pub replies : Faithful C base.store (standing C h)
-    -- They stand in the order of their stamps.
+    -- The standing calls are in the order of their stamps.
     pub order : Pairs (λ b a. number C b < number C a) (standing C h)
 
-  -- The headline.
+  -- the headline
   abbrev pub Headline : Type 0
   Headline = OfHistories IsHeadline
 
-  -- The ownership law: of two standing calls that conflict, if the earlier one has an owner
-  -- then the later one has one too, and the earlier one's is at or above it. So a survivor
-  -- never rests on a call that goes.
+  -- The ownership law. If two standing calls conflict and the earlier one has an owner, the later
+  -- one has an owner too. The earlier call's owner is at or above the later call's owner. A call
+  -- that remains therefore never depends on a call that is removed.
   abbrev pub Ownership : Type 0
   Ownership = OfHistories (λ base h. Pairs (IsNested C (over C h) (λ c. owner_of C h c.asker)) (standing C h))
 
-  -- The log-order law: in each list a call stands in front of every older
-  -- one with which it conflicts.
+  -- The log-order law: in each list, a call comes before every older call that it conflicts with.
   abbrev pub LogOrder : Type 0
   LogOrder = OfHistories (λ base h. (t : ℕ) → Pairs (IsInFront C) (lists C h t))
 
-  -- The abort-order law: amid the calls of others, the lists of the live transactions at or below
-  -- t, taken in any order in which each comes before its parent, each from its newest end, leave
-  -- the store of the standing calls that remain, whatever files were swept before.
+  -- The abort-order law. Amid the calls of others, an abort may take the lists in any order in
+  -- which each comes before its parent's. It takes each list from its newest end. This leaves the
+  -- store of the remaining standing calls, whatever files were swept before.
   abbrev pub AbortOrder : Type 0
   AbortOrder = (base : Base C) → C.IsSound base.store → (h : List (Event C)) (hidden : C.File → Bool) (s : C.Store) (log : ℕ → List (Entry C)) → IsCore C base h hidden s log
       → (t : ℕ) (xs : List ℕ) → IsLive C base.transaction h t → IsAbortOrder C base.transaction h t xs → Hides C hidden (outcome C base (Abort t ∷ h)) (take_back C (joined log xs) s)
 
-  -- The same calls stand as before, and the store is the one before.
+  -- The standing calls and the store are the same as before.
   pub record IsAsBefore (base : Base C) (after before : List (Event C)) : Type 0 where
     pub standing : standing C after ≡ standing C before
     pub store : Same C (machine C base after).store (machine C base before).store
 
-  -- The call just made is what an undo comes upon where its asker has no live child, and the undo
-  -- gives back the store before it.
+  -- If the asker of the call just made has no live child, an undo finds that call and gives back
+  -- the store before it.
   abbrev pub JustMade : Type 0
   JustMade = (base : Base C) → C.IsSound base.store → (h : List (Event C)) (c : Done C) → Legal C base (Call c ∷ h) → live_children C base.transaction (Call c ∷ h) c.asker ≡ []
       → MayUndo C base.transaction (Call c ∷ h) c.asker c × IsAsBefore base (Undo (number C c) ∷ Call c ∷ h) h
@@ -77,38 +76,38 @@ module _ (C : Calls) where
   abbrev pub Numbered : Type 0
   Numbered = OfHistories (λ base h. AreNumbered C base.transaction h)
 
-  -- The live children of each transaction.
+  -- the live children of each transaction
   abbrev pub LiveChildren : Type 0
   LiveChildren = OfHistories (λ base h. (t : ℕ) → AreLiveChildren C base.transaction h t)
 
-  -- A transaction is live from its begin until it commits, or it or one above it is aborted.
+  -- A transaction is live from its begin until it commits, or until it or one above it is aborted.
   abbrev pub FateRules : Type 0
   FateRules = (base : Base C) → C.IsSound base.store → (h : List (Event C)) (e : Event C) → Legal C base (e ∷ h) → FatesAfter C base.transaction e h
 
-  -- Moss's lock rules hold of the locks of every history.
+  -- Moss's lock rules hold for the locks of every history.
   abbrev pub LockRules : Type 0
   LockRules = (base : Base C) → C.IsSound base.store → (h : List (Event C)) (e : Event C) → Legal C base (e ∷ h) → LocksAfter C e h
 
-  -- who owns calls and locks is live
+  -- the owners of calls and locks are live
   pub record AreLiveOwners (first : ℕ) (h : List (Event C)) : Type 0 where
-    -- a granted call's owner is live, at or above its asker
+    -- the owner of a granted call is live, and at or above its asker
     pub above : (c : Done C) (y : ℕ) → In c (grants C h) → owner_of C h c.asker ≡ Some y → IsLive C first h y × (over C h y c.asker ≡ true)
-    -- so who owns a lock is live
+    -- an owner of a lock is therefore live
     pub live : (y : ℕ) (test : C.Accesses → Bool) → owns_lock C h y test ≡ true → IsLive C first h y
-    -- and a live transaction owns its calls itself
+    -- a live transaction owns its calls itself
     pub itself : (t : ℕ) → IsLive C first h t → owner_of C h t ≡ Some t
 
   -- Owners are live.
   abbrev pub LiveOwners : Type 0
   LiveOwners = OfHistories (λ base h. AreLiveOwners base.transaction h)
 
-  -- the blockers are all who are in the way, each once and in the order of their numbers
+  -- the blockers of a call, each once and in the order of their numbers
   pub record AreBlockers (h : List (Event C)) (t : ℕ) (f : C.Accesses) : Type 0 where
-    -- They are all who are in the way: since an owner is live, and so begun, none is missed.
+    -- All blockers are listed: an owner is live and therefore begun, so none is missed.
     pub own : AreThose (is_blocker C h t f) (blockers_of C h t f)
-    -- So it is by Moss's own rule,
+    -- The same holds for the blockers by Moss's own rule.
     pub moss : AreThose (is_moss_blocker C h t f) (moss_blockers_of C h t f)
-    -- which grants no call that the other does not.
+    -- That rule grants no call that the other rule refuses.
     pub stricter : moss_blockers_of C h t f ≡ [] → blockers_of C h t f ≡ []
 
   -- The blockers of a call of t with any accesses, by both rules.
@@ -119,54 +118,56 @@ module _ (C : Calls) where
   abbrev pub calls_below : List (Event C) → ℕ → ℕ
   calls_below h t = length (passing (λ c. over C h t c.asker) (standing C h))
 
-  -- how much goes by an abort of t, with its lists taken in this order
+  -- what an abort of t removes, if its lists are taken in this order
   pub record IsAbortCount (h : List (Event C)) (t : ℕ) (xs : List ℕ) : Type 0 where
-    -- So many calls go,
+    -- This many calls are removed.
     pub calls : length (standing C (Abort t ∷ h)) + calls_below h t ≡ length (standing C h)
-    -- and so many entries are taken back.
+    -- As many entries are undone.
     pub entries : length (joined (lists C h) xs) ≡ calls_below h t
 
-  -- An abort takes away as many calls as stand at or below the transaction, and as many inverses
-  -- are put to the store, in whichever order it takes the lists.
+  -- An abort removes all standing calls at or below the transaction, and puts as many inverses to
+  -- the store. This holds in whichever order it takes the lists.
   abbrev pub AbortCount : Type 0
   AbortCount = OfHistories (λ base h. (t : ℕ) (xs : List ℕ) → IsLive C base.transaction h t → IsAbortOrder C base.transaction h t xs → IsAbortCount h t xs)
 
-  -- There is such an order: from the newest on.
+  -- An abort may take the lists from the newest transaction on.
   abbrev pub NewestFirst : Type 0
   NewestFirst = OfHistories (λ base h. (t : ℕ) → IsAbortOrder C base.transaction h t (newest_below C h t))
 
-  -- the list of t has each standing call that t owns, once, and no others
+  -- the list of t has each standing call that t owns, once, and no other call
   pub record IsExact (first : ℕ) (h : List (Event C)) (t : ℕ) : Type 0 where
     pub owned : (c : Done C) → In c (lists C h t) → In c (standing C h) × (owner_of C h c.asker ≡ Some t)
     pub all : (c : Done C) → In c (standing C h) → owner_of C h c.asker ≡ Some t → In c (lists C h t)
     pub once : Pairs (λ a b. number C a ≢ number C b) (lists C h t)
     pub live : lists C h t ≢ [] → IsLive C first h t
 
-  -- The ledger holds one entry for each standing call that has an owner, in its owner's list, and
-  -- no others; so only live transactions have lists.
+  -- The ledger has one entry for each standing call with an owner, in its owner's list, and no
+  -- other entry. Only live transactions therefore have lists.
   abbrev pub ExactLedger : Type 0
   ExactLedger = OfHistories (λ base h. (t : ℕ) → IsExact base.transaction h t)
 
-  -- what an undo of t comes upon, by two stamps
+  -- what an undo of t finds, by two stamps
   pub record IsTargetByStamps (first : ℕ) (h : List (Event C)) (t : ℕ) : Type 0 where
-    -- the newest of t's list, where it came after the last commit of a child
+    -- the newest of t's list, if it came after the last commit of a child
     pub found : (d : Done C) (ds : List (Done C)) → lists C h t ≡ d ∷ ds → ((k : ℕ) → last_sub C first h t ≡ Some k → k < number C d) → undo_target C h t ≡ Found d
-    -- a child's commit, where it came after all of the list
+    -- a child's commit, if it came after all of the list
     pub since : (k : ℕ) → last_sub C first h t ≡ Some k → ((d : Done C) (ds : List (Done C)) → lists C h t ≡ d ∷ ds → number C d ≤ k) → undo_target C h t ≡ SubSince
-    -- or neither
+    -- neither, if there is no such commit and the list is empty
     pub nothing : last_sub C first h t ≡ None → lists C h t ≡ [] → undo_target C h t ≡ Nothing
 
-  -- The newest of a live transaction's list and the last commit of a child
-  -- decide what an undo comes upon.
+  -- The newest call of a live transaction's list and the last commit of a child decide what an undo
+  -- finds.
   abbrev pub TargetByStamps : Type 0
   TargetByStamps = OfHistories (λ base h. (t : ℕ) → IsLive C base.transaction h t → IsTargetByStamps base.stamp h t)
 
-  -- The commit of u sets what is told of its parent to the last stamp, and of nobody else.
+  -- The commit of u sets the stamp of its parent's last child commit to the last stamp. It changes
+  -- that of no other transaction.
   pub record IsSubCommitted (first : ℕ) (h : List (Event C)) (u : ℕ) : Type 0 where
     pub under : (p : ℕ) → parent C h u ≡ Some p → (t : ℕ) → last_sub C first (Commit u ∷ h) t ≡ put (last_sub C first h) p (Some (last_stamp C first h)) t
     pub top : parent C h u ≡ None → (t : ℕ) → last_sub C first (Commit u ∷ h) t ≡ last_sub C first h t
 
-  -- The last commit of a child, after a commit; no other event changes it, by its definition.
+  -- The stamp of the last child commit, after a commit. No other event changes it, by its
+  -- definition.
   abbrev pub SubCommits : Type 0
   SubCommits = (first : ℕ) (h : List (Event C)) (u : ℕ) → IsSubCommitted first h u
 
@@ -174,42 +175,44 @@ module _ (C : Calls) where
   abbrev pub OfCores : ((base : Base C) → List (Event C) → (C.File → Bool) → C.Store → (ℕ → List (Entry C)) → Type 0) → Type 0
   OfCores P = (base : Base C) → C.IsSound base.store → (h : List (Event C)) (hidden : C.File → Bool) (s : C.Store) (log : ℕ → List (Entry C)) → IsCore C base h hidden s log → P base h hidden s log
 
-  -- A begin: the store and the lists stay.
+  -- A begin: the store and the lists stay as they are.
   abbrev pub BeginKeeps : Type 0
   BeginKeeps = OfCores (λ base h hidden s log. (n : ℕ) (p : Option ℕ) → MayBegin C base.transaction h n p → IsCore C base (Begin n p ∷ h) hidden s log)
 
-  -- An ask, with any files hidden: the call is made, and its inverse is pushed.
+  -- An ask, with any files hidden: the call is made, and its inverse is added to the asker's list.
   abbrev pub AskKeeps : Type 0
   AskKeeps = OfCores (λ base h hidden s log. (c : Done C) (u : C.Inverse) → IsMade C base h s c u
       → IsCore C base (Call c ∷ h) hidden (C.act s c.call) (pushed log c.asker (record { done = c; inverse = u })))
 
-  -- An undo: the newest entry of t's list is of the undo target, and its inverse may
-  -- be put to the store, and is.
+  -- An undo: the newest entry of t's list has the undo target. Its inverse may be put to the store,
+  -- and the undo does so.
   abbrev pub UndoKeeps : Type 0
   UndoKeeps = OfCores (λ base h hidden s log. (t : ℕ) (d : Done C) → MayUndo C base.transaction h t d
       → (u : C.Inverse) × (es : List (Entry C)) × (log t ≡ record { done = d; inverse = u } ∷ es) × C.MayRevert s u × IsCore C base (Undo (number C d) ∷ h) hidden (C.revert s u) (put log t es))
 
-  -- A commit: the store stays, and the list goes behind the parent's.
+  -- A commit: the store stays as it is, and the list is added to the parent's, as newer.
   abbrev pub CommitKeeps : Type 0
   CommitKeeps = OfCores (λ base h hidden s log. (t : ℕ) → MayCommit C base.transaction h t → IsCore C base (Commit t ∷ h) hidden s (handed log t (parent C h t)))
 
-  -- An abort: the lists of the live transactions at or below t, in any order in which each comes
-  -- before its parent, may be taken back, each from its newest end, and are; they are empty then.
+  -- An abort: the lists may be taken in any order in which each comes before its parent's, each
+  -- from its newest end. Every inverse may be put to the store when its turn comes. All these lists
+  -- are empty afterwards.
   abbrev pub AbortKeeps : Type 0
   AbortKeeps = OfCores (λ base h hidden s log. (t : ℕ) (xs : List ℕ) → IsLive C base.transaction h t → IsAbortOrder C base.transaction h t xs
       → MayTakeBack C (joined log xs) s × IsCore C base (Abort t ∷ h) hidden (take_back C (joined log xs) s) (emptied (over C h) log t))
 
-  -- A sweep: nothing happens, and more files are hidden.
+  -- A sweep: the history stays as it is, and more files are hidden.
   abbrev pub SweepKeeps : Type 0
   SweepKeeps = OfCores (λ base h hidden s log. (more : C.File → Bool) (new : C.Store) → IsSweep C base.stamp h hidden more s new → IsCore C base h more new log)
 
-  -- The store is a base, and a core with no history: what was fresh stays fresh.
+  -- The store is sound as a base, and with no history it is a core. A number that was fresh stays
+  -- fresh.
   pub record IsCheckpoint (base : Base C) (h : List (Event C)) (s : C.Store) (log : ℕ → List (Entry C)) : Type 0 where
     pub sound : C.IsSound s
     pub core : IsCore C (checkpoint C base h s) [] (λ i. false) s log
     pub fresh : IsFresh C base → IsFresh C (checkpoint C base h s)
 
-  -- A checkpoint: where no transaction is live, the history can be forgotten,
-  -- and what was fresh stays fresh.
+  -- A checkpoint: if no transaction is live, the history can be forgotten, and what was fresh stays
+  -- fresh.
   abbrev pub CheckpointKeeps : Type 0
   CheckpointKeeps = OfCores (λ base h hidden s log. ((t : ℕ) → IsLive C base.transaction h t → ⊥) → IsCheckpoint base h s log)

@@ -10,8 +10,7 @@ use Rattle.ft_history.specs.History.Event.{Commit}
 use Rattle.ft_history.specs.Legal.{outcome, Legal}
 use Rattle.ft_history.specs.Promises.{OfHistories}
 
--- the place at which a number stands first in a list; where it doesn't
--- stand there, the list's length
+-- the place at which a number first occurs in a list, or the list's length if it is not there
 abbrev pub place : List ℕ → ℕ → ℕ
 place [] x = 0
 place (r ∷ rs) x = cond (x == r) 0 (suc (place rs x))
@@ -31,7 +30,7 @@ module _ (C : Calls) where
   abbrev pub calls_under : List (Event C) → ℕ → List (Done C)
   calls_under h r = passing (λ c. root_of h c == r) (standing C h)
 
-  -- those of each committed top-level transaction, in order of commit
+  -- the standing calls of each committed top-level transaction, in order of commit
   abbrev pub committed_part : List (Event C) → List (Done C)
   committed_part h = joined (calls_under h) (committed_roots h)
 
@@ -43,42 +42,42 @@ module _ (C : Calls) where
   abbrev pub serial_list : List (Event C) → List (Done C)
   serial_list h = committed_part h ++ open_part h
 
-  -- b was granted before a: where they conflict, they have one root, or b's committed, and
-  -- a's did so later or not at all.
+  -- b was granted before a. If they conflict, either they have the same root, or b's root
+  -- committed, and a's root committed later or not at all.
   abbrev pub IsSerialPair : List (Event C) → Done C → Done C → Type 0
   IsSerialPair h b a = C.conflict b.accesses a.accesses ≡ true → (root_of h b ≡ root_of h a) ⊎ (place (committed_roots h) (root_of h b) < place (committed_roots h) (root_of h a))
 
-  -- The serial order law.
+  -- the serial order law
   abbrev pub SerialOrder : Type 0
   SerialOrder = OfHistories C (λ base h. Pairs (IsSerialPair h) (standing C h))
 
-  -- The calls can be made from the base, no two of one stamp, and each then has its
-  -- recorded accesses and reply.
+  -- The calls can be made from the base, and no two have the same stamp. Each then has its recorded
+  -- accesses and reply.
   pub record AreMade (base : Base C) (cs : List (Done C)) : Type 0 where
     pub able : Able C base.store cs
     pub replies : Faithful C base.store cs
 
   -- the serial list can be made, and leaves the same store
   pub record IsSerial (base : Base C) (h : List (Event C)) : Type 0 where
-    -- The serial list has the standing calls and no others.
+    -- The serial list has exactly the standing calls.
     pub all : (c : Done C) → In c (serial_list h) ↔ In c (standing C h)
-    -- Made in that order, they leave the same store.
+    -- Made in that order, the calls leave the same store.
     pub made : AreMade base (serial_list h)
     pub store : Same C (outcome C base h) (run C base.store (serial_list h))
     -- The committed part alone can be made.
     pub committed : AreMade base (committed_part h)
 
-  -- The serial store: so it is of every legal history.
+  -- The serial store: this holds for every legal history.
   abbrev pub Serial : Type 0
   Serial = OfHistories C IsSerial
 
-  -- the calls that an event adds to the committed part: where a top-level
-  -- transaction commits, those below it
+  -- the calls that an event adds to the committed part: the commit of a top-level transaction adds
+  -- those at or below it
   abbrev pub newly_committed : List (Event C) → Event C → List (Done C)
   newly_committed h (Commit t) = cond (is_some (parent C h t)) [] (calls_under h t)
   newly_committed h other = []
 
-  -- What has committed stays: an event leaves the committed part as it is, and the commit of a
-  -- top-level transaction adds the calls below it at the end.
+  -- What has committed stays: an event leaves the committed part as it is. Only the commit of a
+  -- top-level transaction adds to it: the calls at or below the transaction, at the end.
   abbrev pub CommittedSteps : Type 0
   CommittedSteps = (base : Base C) → C.IsSound base.store → (h : List (Event C)) (e : Event C) → Legal C base (e ∷ h) → committed_part (e ∷ h) ≡ committed_part h ++ newly_committed h e

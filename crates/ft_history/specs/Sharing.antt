@@ -1,4 +1,5 @@
--- Who owns conflicting locks at once. (Moss, Nested Transactions, MIT 1981, the locking rules.)
+-- Which transactions own conflicting locks at the same time. (Moss, Nested Transactions, MIT 1981,
+-- the locking rules.)
 use Rattle.std.specs.Prelude.{◌≡◌, ℕ, Bool, true, ◌||◌, List, []}
 use Rattle.ft_laws.specs.Calls.{Calls}
 use Rattle.ft_history.specs.History.{Event, over, live_children}
@@ -6,7 +7,7 @@ use Rattle.ft_history.specs.Locks.{owns_lock}
 use Rattle.ft_history.specs.Promises.{OfHistories}
 
 module _ (C : Calls) where
-  -- x owns a lock and y one that conflicts with it
+  -- x owns a lock, and y owns one that conflicts with it
   pub record OwnConflicting (h : List (Event C)) (x y : ℕ) : Type 0 where
     pub one : C.Accesses → Bool
     pub other : C.Accesses → Bool
@@ -14,14 +15,14 @@ module _ (C : Calls) where
     pub first : owns_lock C h x one ≡ true
     pub second : owns_lock C h y other ≡ true
 
-  -- conflicting locks are owned by transactions above one another
+  -- owners of conflicting locks are above one another
   pub record AreShared (first : ℕ) (h : List (Event C)) : Type 0 where
-    -- Of two owners of conflicting locks one is the other or an ancestor of it (Moss: all who
-    -- retain a conflicting lock must be superiors).
+    -- If two transactions own conflicting locks, one is the other or an ancestor of it (Moss: all
+    -- who retain a conflicting lock must be superiors).
     pub related : (x y : ℕ) → OwnConflicting h x y → (over C h x y || over C h y x) ≡ true
-    -- So one without a live child shares with its ancestors alone.
+    -- A transaction without a live child therefore shares them only with its ancestors.
     pub alone : (t y : ℕ) → live_children C first h t ≡ [] → OwnConflicting h t y → over C h y t ≡ true
 
-  -- So it is in every legal history.
+  -- This holds in every legal history.
   abbrev pub Sharing : Type 0
   Sharing = OfHistories C (λ base h. AreShared base.transaction h)

@@ -1,10 +1,12 @@
-//! What happens under nested transactions, and what every history of it keeps: who owns which
-//! calls, which calls stand, what an undo and an abort take back, and that the store, changed in
-//! place, is always that of the standing calls alone.
+//! What happens under nested transactions, and what every history of it keeps.
 //!
-//! The definitions are in `specs`, the theorems for any lawful calls in `proofs`. Each function
-//! here has no body to run: its `ensures` is a theorem, at a tiny tree of directories and files,
-//! for every base and every legal history from it.
+//! The theorems cover the owners of calls, the standing calls, and the effects of an undo and an
+//! abort. The main one is that the store, changed in place, is always that of the standing calls
+//! alone.
+//!
+//! The definitions are in `specs`, and the theorems for any lawful calls are in `proofs`. No
+//! function here has a body to run. Its `ensures` is a theorem at a tiny tree of directories and
+//! files, for every base and every legal history from it.
 #![tactic(auto)]
 
 ghost use Rattle.std.specs.Prelude.{◌≡◌, Some, None, [], ◌∷◌};
@@ -20,78 +22,81 @@ ghost use Rattle.ft_laws.specs.Tiny.{tiny_calls};
 ghost use Rattle.ft_laws.specs.Tiny.Cell.{Entry};
 ghost use Rattle.ft_laws.specs.Tiny.Node.{FileNode};
 
-/// After every legal history the store, which was changed in place, is that of the standing calls
-/// alone, made one after another from the base, each with the reply that it got.
+/// After every legal history, the store that was changed in place is that of the standing calls
+/// alone, made one after another from the base. Each standing call then gets its recorded reply.
 pub fn headline()
     ensures { Headline tiny_calls }
 {}
 
-/// Of two standing calls that conflict, if the earlier one has an owner then the later one has one
-/// too, and the earlier one's is at or above it.
+/// If two standing calls conflict and the earlier one has an owner, the later one has an owner too.
+/// The earlier call's owner is at or above the later call's owner.
 pub fn ownership()
     ensures { Ownership tiny_calls }
 {}
 
-/// Transactions are numbered one after another from the base's last number on, and a later number
-/// has neither a parent nor an end.
+/// Transactions are numbered one after another from the base's last number on. A later number has
+/// neither a parent nor an end.
 pub fn numbered()
     ensures { Numbered tiny_calls }
 {}
 
-/// The live children of a transaction, each once and in the order of their numbers.
+/// Each live child of a transaction is listed once, in the order of the numbers.
 pub fn children()
     ensures { LiveChildren tiny_calls }
 {}
 
-/// What each event does to the transactions: a new one is live, a commit makes its own committed,
-/// an abort makes aborted what is live at or below it.
+/// Each event changes the transactions by these rules. A new transaction is live. A commit makes
+/// its transaction committed. An abort makes aborted whatever is live at or below its transaction.
 pub fn fate_rules()
     ensures { FateRules tiny_calls }
 {}
 
-/// What each event does to the locks, held and retained: Moss's rules of grant, inheritance and
+/// Each event changes the locks, held and retained, by Moss's rules of grant, inheritance and
 /// abort.
 pub fn lock_rules()
     ensures { LockRules tiny_calls }
 {}
 
-/// Of two owners of conflicting locks one is at or above the other, so one without a live child
-/// shares them with its ancestors alone.
+/// If two transactions own conflicting locks, one is at or above the other. A transaction without a
+/// live child therefore shares them only with its ancestors.
 pub fn lock_sharing()
     ensures { Sharing tiny_calls }
 {}
 
-/// The blockers of a call, each once and in the order of their numbers, are all who own a
-/// conflicting lock and are neither the asker nor above it; by Moss's own rule for holders, those
-/// above it who hold one as well.
+/// The blockers of a call are all owners of a conflicting lock that are neither the asker nor above
+/// it. Each is listed once, in the order of the numbers.
+///
+/// By Moss's own rule for holders, transactions above the asker that hold such a lock block it as
+/// well.
 pub fn blockers()
     ensures { Blockers tiny_calls }
 {}
 
-/// The owner of a granted call is live, at or above its asker, so who owns a lock is live; and a
+/// The owner of a granted call is live, and at or above its asker, so an owner of a lock is live. A
 /// live transaction owns its calls itself.
 pub fn live_owners()
     ensures { LiveOwners tiny_calls }
 {}
 
-/// In each list a call stands in front of every older one with which it conflicts.
+/// In each list, a call comes before every older call that it conflicts with.
 pub fn log_order()
     ensures { LogOrder tiny_calls }
 {}
 
-/// An abort of any live transaction, amid the calls of others, leaves the store of the standing
-/// calls that remain, in whichever order it takes the lists, each before that of its parent.
+/// An abort of any live transaction, amid the calls of others, leaves the store of the remaining
+/// standing calls. It may take the lists in any order in which each comes before that of its
+/// parent.
 pub fn abort_order()
     ensures { AbortOrder tiny_calls }
 {}
 
-/// From the newest transaction on is such an order.
+/// An abort may take the lists from the newest transaction on.
 pub fn newest_first()
     ensures { NewestFirst tiny_calls }
 {}
 
-/// The call just made is what an undo comes upon where its asker has no live child, and the undo
-/// gives back the store before it.
+/// If the asker of the call just made has no live child, an undo finds that call and gives back the
+/// store before it.
 pub fn just_made()
     ensures { JustMade tiny_calls }
 {}
@@ -101,81 +106,84 @@ pub fn abort_alone()
     ensures { AbortAlone tiny_calls }
 {}
 
-/// An abort takes away as many calls as stand at or below the transaction, by as many inverses.
+/// An abort removes all standing calls at or below the transaction, and puts as many inverses to
+/// the store.
 pub fn abort_count()
     ensures { AbortCount tiny_calls }
 {}
 
-/// The ledger holds one entry for each standing call that has an owner, in its owner's list, and no
-/// others; so only live transactions have lists.
+/// The ledger has one entry for each standing call with an owner, in its owner's list, and no other
+/// entry. Only live transactions therefore have lists.
 pub fn exact_ledger()
     ensures { ExactLedger tiny_calls }
 {}
 
-/// Of two standing calls that conflict, either both have one root, or the earlier one's root
-/// committed, and the later one's did so later or not at all.
+/// If two standing calls conflict, either both have the same root or the earlier one's root
+/// committed. In the second case, the later one's root committed later or not at all.
 pub fn serial_order()
     ensures { SerialOrder tiny_calls }
 {}
 
-/// The committed transactions in order of commit, then the other calls: this list has each standing
-/// call once, and made so they leave the same store and get the same replies.
+/// The serial list has the calls of the committed transactions in order of commit, then all others.
+/// It has each standing call once. Made in that order, the calls leave the same store and get the
+/// same replies.
 pub fn serial_store()
     ensures { Serial tiny_calls }
 {}
 
-/// What has committed stays: an event leaves the committed part of the serial list as it is, and
-/// the commit of a top-level transaction adds the standing calls below it at the end.
+/// An event leaves the committed part of the serial list as it is. Only the commit of a top-level
+/// transaction adds to it: the standing calls at or below the transaction, at the end.
 pub fn committed_steps()
     ensures { CommittedSteps tiny_calls }
 {}
 
-/// The newest of a live transaction's list and the last commit of a child decide what an undo comes
-/// upon; the commit of a child sets the latter to the last stamp.
+/// The newest call of a live transaction's list and the last commit of a child decide what an undo
+/// finds. The commit of a child sets the latter to the last stamp.
 pub fn target_by_stamps()
     ensures decides { TargetByStamps tiny_calls }
     ensures commits { SubCommits tiny_calls }
 {}
 
-/// A begin keeps what a core keeps.
+/// A begin keeps the invariant of a core.
 pub fn begin_keeps()
     ensures { BeginKeeps tiny_calls }
 {}
 
-/// A granted call keeps what a core keeps, whatever files were swept.
+/// A granted call keeps the invariant of a core, whatever files were swept.
 pub fn ask_keeps()
     ensures { AskKeeps tiny_calls }
 {}
 
-/// An undo finds its call as the newest of the transaction's list, whose inverse may be put to the
-/// store, and keeps what a core keeps, whatever files were swept.
+/// An undo finds its call as the newest of the transaction's list, and the call's inverse may be
+/// put to the store. The undo keeps the invariant of a core, whatever files were swept.
 pub fn undo_keeps()
     ensures { UndoKeeps tiny_calls }
 {}
 
-/// A commit keeps what a core keeps, whatever files were swept.
+/// A commit keeps the invariant of a core, whatever files were swept.
 pub fn commit_keeps()
     ensures { CommitKeeps tiny_calls }
 {}
 
-/// In an abort each inverse may be put to the store when its turn comes, and the abort keeps what a
-/// core keeps, whatever files were swept.
+/// In an abort, each inverse may be put to the store when its turn comes. The abort keeps the
+/// invariant of a core, whatever files were swept.
 pub fn abort_keeps()
     ensures { AbortKeeps tiny_calls }
 {}
 
-/// A sweep of files that nothing names and no lock covers keeps what a core keeps.
+/// A sweep of files that nothing names and no lock covers keeps the invariant of a core.
 pub fn sweep_keeps()
     ensures { SweepKeeps tiny_calls }
 {}
 
-/// Where no transaction is live, a checkpoint can forget the history: the store becomes the base.
+/// If no transaction is live, a checkpoint can forget the history, and the store becomes the base.
 pub fn checkpoint_keeps()
     ensures { CheckpointKeeps tiny_calls }
 {}
 
-/// There are such histories: here a child makes a directory and commits, its parent makes a file in
-/// it, undoes that and aborts, amid the call of a third transaction, whose file alone is left.
+/// An interleaved legal history exists. A child makes a directory and commits. Its parent makes a
+/// file in it, undoes that and aborts. A third transaction makes a file in between, and only that
+/// file is left.
 pub fn interleaved_history()
     ensures legal { Legal tiny_calls start interleaved }
     ensures standing { standing tiny_calls interleaved ≡ neighbour ∷ [] }
@@ -185,9 +193,13 @@ pub fn interleaved_history()
     ensures left { (machine tiny_calls start interleaved).store (Entry 1 1) ≡ Some (FileNode 3) }
 {}
 
-/// An abort is false in any other way: each list oldest first; the lists by rising number; without
-/// the calls of committed children; without those of live descendants; and with a child's list
-/// placed in front of its parent's at the commit.
+/// An abort is false in any of these ways.
+///
+/// - Each list is taken oldest first.
+/// - The lists are taken by rising number.
+/// - The calls of committed children are left out.
+/// - The calls of live descendants are left out.
+/// - A commit adds the child's list to its parent's as older.
 pub fn aborts_need_their_order()
     ensures oldest_first { AbortOldestFirst tiny_calls → ⊥ }
     ensures rising { AbortRising tiny_calls → ⊥ }
@@ -196,24 +208,27 @@ pub fn aborts_need_their_order()
     ensures in_front { CommitInFront tiny_calls → ⊥ }
 {}
 
-/// An undo is false of another target: of a call though a child is live, whose inverse need not fit
-/// the store any more, or of one that a child's commit came after.
+/// An undo is false if it takes a call although a child is live: the call's inverse may no longer
+/// fit the store. It is also false if it takes a call that a child's commit came after.
 pub fn undos_need_their_target()
     ensures misfit { RevertOverChild tiny_calls → ⊥ }
     ensures live_child { UndoOverChild tiny_calls → ⊥ }
     ensures past_commit { UndoPastCommit tiny_calls → ⊥ }
 {}
 
-/// Owners and locks are needed as they are: where the ownership law says nothing of a later call
-/// without an owner, where a child's locks are let go at its commit, or where a sweep drops a file
-/// that a lock covers, a survivor can rest on a call that goes.
+/// The rules of owners and locks are needed. Each of these changes can leave a call that depends on
+/// a removed one.
+///
+/// - The ownership law does not apply to a later call without an owner.
+/// - A child's commit releases its locks.
+/// - A sweep drops a file that a lock covers.
 pub fn locks_need_inheritance()
     ensures weak_ownership { WeakOwnership tiny_calls → ⊥ }
     ensures let_go { LocksLetGo tiny_calls → ⊥ }
     ensures swept { SweepLocked tiny_calls → ⊥ }
 {}
 
-/// The committed transactions can't be made in another order than that of their commits.
+/// The committed transactions cannot be made in an order other than that of their commits.
 pub fn serial_needs_commit_order()
     ensures { SerialReversed tiny_calls → ⊥ }
 {}

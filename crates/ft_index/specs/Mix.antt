@@ -1,4 +1,4 @@
--- What `mix` answers.
+-- The result of `mix`.
 use Rattle.std.specs.Prelude.{ℕ, ◌-◌, ◌*◌, ◌/◌, ◌^◌, bit_and, bit_xor}
 use Rattle.ft_index.specs.declared.TheConstants.{MULTIPLIER}
 

@@ -4,7 +4,7 @@ ghost use Rattle.std.specs.Iterator.{YieldsFirst, item_count};
 use crate::slot::Slot;
 use std::marker::Model;
 
-/// The keys of one hash, seen as the list of those that are left, in no order that is told.
+/// The keys of one hash, in no specified order. Clauses see it as the list of those that are left.
 #[derive(Drop)]
 pub struct Candidates<'a> {
     pub(crate) slots: &'a [Slot],

@@ -9,7 +9,8 @@ use crate::{FIRST_HOMES, MOST_HOMES, MOST_SPARE};
 use ft_base::Memory;
 use std::alloc::Global;
 
-/// Makes the homes twice as many where three quarters of them are taken. Its error changes nothing.
+/// Doubles the homes if there are keys for three quarters of them. Fails if there is not enough
+/// memory or all homes exist. On an error, nothing has changed.
 pub(crate) fn make_room(
     slots: &mut Vec<Slot>,
     homes: &mut usize,
@@ -34,7 +35,7 @@ pub(crate) fn make_room(
     Ok(())
 }
 
-/// The same keys in slots with so many homes.
+/// Returns slots with this many homes and the same keys. Out of memory is the only error.
 fn with_homes(alloc: Global, slots: &[Slot], homes: usize) -> Result<Vec<Slot>, Memory>
     requires apart { AreSlots slots.now }
     requires few { homes ≤ 2 ^ 32 }
@@ -50,7 +51,7 @@ fn with_homes(alloc: Global, slots: &[Slot], homes: usize) -> Result<Vec<Slot>, 
     Ok(table)
 }
 
-/// So many free slots, with room for some more.
+/// Returns this many free slots, with room for some more. Out of memory is the only error.
 fn free_slots(alloc: Global, homes: usize) -> Result<Vec<Slot>, Memory>
     requires { homes ≤ 2 ^ 32 }
     ensures { IfOk result (λ table. table.items ≡ replicate homes free) }

@@ -12,16 +12,16 @@ use ft_base::Memory;
 use std::alloc::Global;
 use std::marker::Model;
 
-/// Which keys have which hash, which clauses see as a finite map from keys to hashes.
+/// The keys and their hashes. Clauses see an index as a finite map from keys to hashes.
 ///
-/// Its keys are numbers below 2^32 - 1: greater ones are refused for want of memory. It takes no
-/// memory before its first key, and then some 11 to 22 bytes a key.
+/// Its keys are numbers below 2^32 - 1: other numbers are refused as out of memory. It takes no
+/// memory before its first key. As it grows to many keys, it takes about 11 to 22 bytes a key.
 #[derive(Drop)]
 pub struct Index {
     slots: Vec<Slot>,
-    // How many slots are the home of a hash: the first ones.
+    /// How many slots, from the first on, are the home of a hash.
     homes: usize,
-    // How many keys there are.
+    /// How many keys there are.
     count: usize,
 }
 
@@ -43,7 +43,7 @@ impl Model for Index {
 }
 
 impl Index {
-    /// No key has a hash. Takes no memory.
+    /// Returns an index in which no key has a hash. Takes no memory.
     pub fn new(alloc: Global) -> Index
         ensures { result ≡ finite.empty }
     {
@@ -54,7 +54,7 @@ impl Index {
         }
     }
 
-    /// The keys of a hash, in no order that is told.
+    /// Returns the keys of a hash, in no specified order.
     pub fn candidates(&self, hash: u32) -> Candidates<'_>
         ensures { (key : ℕ) → Contains result key ↔ (finite.get self.now key ≡ Some hash) }
     {
@@ -65,8 +65,8 @@ impl Index {
         }
     }
 
-    /// Gives a key, which has none, its hash. Only here can an index want memory, and then nothing
-    /// has changed.
+    /// Gives a hash to a key that has none. Only this call of an index takes memory. If there is
+    /// not enough, nothing has changed.
     pub fn insert(&mut self, key: usize, hash: u32) -> Result<(), Memory>
         requires { finite.get self.old key ≡ None }
         ensures ok { OnOk result (self.new ≡ finite.insert self.old key hash) }
@@ -82,7 +82,7 @@ impl Index {
         Ok(())
     }
 
-    /// Takes out a key, whose hash is given. Takes no memory.
+    /// Removes a key, which has the given hash. Takes no memory.
     pub fn remove(&mut self, key: usize, hash: u32)
         requires { finite.get self.old key ≡ Some hash }
         ensures { self.new ≡ finite.remove self.old key }
@@ -93,7 +93,7 @@ impl Index {
         self.count -= 1;
     }
 
-    /// Gives the hash of a key to a lower one, which has none. Takes no memory.
+    /// Moves the hash of a key to a lower key that has none. Takes no memory.
     pub fn rekey(&mut self, from: usize, to: usize, hash: u32)
         requires from { finite.get self.old from ≡ Some hash }
         requires to { finite.get self.old to ≡ None }
@@ -105,7 +105,8 @@ impl Index {
         self.slots[at] = Slot { mark, hash };
     }
 
-    /// Takes out all keys, and keeps the room of about so many. Takes no memory.
+    /// Removes all keys. Keeps the homes, unless the keys were fewer than an eighth of them. Takes
+    /// no memory.
     pub fn clear(&mut self)
         ensures { self.new ≡ finite.empty }
     {

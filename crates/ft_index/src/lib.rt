@@ -1,4 +1,4 @@
-//! An index by hash: which keys have which hash, and the mixing that hashes are made with.
+//! An index by hash: which keys have which hash, and the mixing that makes the hashes.
 #![tactic(auto)]
 
 mod candidates;
@@ -12,20 +12,22 @@ pub use candidates::Candidates;
 pub use index::Index;
 pub use mixing::mix;
 
-/// What a seed and a word are multiplied by: an odd number of 64 bits without a pattern.
+/// The factor by which a seed and a word are multiplied: an odd number of 64 bits without a
+/// pattern.
 const MULTIPLIER: u64 = 0x9e37_79b9_7f4a_7c15;
 
-/// The least key that no index takes.
+/// The least number that no index takes as a key.
 const KEYS_END: usize = 0xFFFF_FFFF;
 
-/// How many homes an index has when it is given its first key.
+/// How many homes an index has when it gets its first key.
 const FIRST_HOMES: usize = 16;
 
 /// How many homes an index has at most: one for each hash.
 const MOST_HOMES: usize = 0x1_0000_0000;
 
-/// How many slots there is room for, at most, behind those that are homes before that room grows.
+/// For how many slots after the homes there is room at most, before that room grows.
 const MOST_SPARE: usize = 32;
 
-/// An index with fewer keys than this part of its homes begins anew when it is cleared.
+/// An index starts again without homes when it is cleared, if it has fewer keys than its homes
+/// divided by this number.
 const SPARSE: usize = 8;

@@ -1,20 +1,20 @@
-// The mixing that hashes are made with.
+// The mixing that makes the hashes.
 ghost use Rattle.std.specs.Prelude.{◌≡◌, ◌*◌};
 ghost use Rattle.ft_index.specs.Mix.{folded, mix as mixed};
 
 use crate::MULTIPLIER;
 
-/// A hash of a word, told by its arguments alone: the same for the same seed and word. It may be
-/// the seed for the next word of several.
+/// Returns a hash of a word, which depends only on the seed and the word. The hash may be the seed
+/// for the next of several words.
 ///
-/// Its upper half is what `Index` takes.
+/// Its upper half is the hash that `Index` takes.
 pub fn mix(seed: u64, word: u64) -> u64
     ensures { result ≡ mixed seed word }
 {
     folded_multiply(seed ^ word, MULTIPLIER)
 }
 
-/// The two halves of a product's 128 bits, joined by xor.
+/// Returns the two halves of a product of 128 bits, joined by xor.
 fn folded_multiply(a: u64, b: u64) -> u64
     ensures { result ≡ folded (a * b) }
 {

@@ -1,5 +1,5 @@
-// How a key is found, placed and taken out. Each hash has a home among the slots, where the search
-// for its keys begins; it goes on up to a free slot or the end.
+// How a key is found, placed and removed. Each hash has a home among the slots, where the search
+// for its keys begins. The search goes on up to a free slot or the end.
 ghost use Rattle.std.specs.Prelude.{◌≡◌, ◌<◌, ◌≤◌, ◌+◌, ◌^◌, ℕ, OnOk, OnErr, length};
 ghost use Rattle.ft_index.specs.Slots.{HasMark, AreFull, slot_at, AreSlots};
 ghost use Rattle.ft_index.specs.Probing.{home_of, IsPlaced, AreLed, AreLedBut, IsClosing, SameKeys};
@@ -7,7 +7,7 @@ ghost use Rattle.ft_index.specs.Probing.{home_of, IsPlaced, AreLed, AreLedBut, I
 use crate::slot::{FREE, Slot};
 use ft_base::Memory;
 
-/// The home of a hash.
+/// Returns the home of a hash.
 pub(crate) fn home(hash: u32, homes: usize) -> usize
     requires { homes ≤ 2 ^ 32 }
     ensures home { result ≡ home_of homes hash }
@@ -16,7 +16,7 @@ pub(crate) fn home(hash: u32, homes: usize) -> usize
     (hash as usize * homes) >> 32
 }
 
-/// The first free slot from a place on, or the end.
+/// Returns the first free slot from a place on. If there is none, returns the end.
 fn first_free(slots: &[Slot], start: usize) -> usize
     requires { start ≤ length slots.now }
     ensures start { start ≤ result }
@@ -31,8 +31,8 @@ fn first_free(slots: &[Slot], start: usize) -> usize
     at
 }
 
-/// Puts a key in the first free slot from its home on. Only at the end can it want memory, and then
-/// nothing has changed.
+/// Puts a key in the first free slot from its home on. Takes memory only at the end of the slots.
+/// If there is not enough memory, nothing has changed.
 pub(crate) fn place(slots: &mut Vec<Slot>, homes: usize, slot: Slot) -> Result<(), Memory>
     requires few { homes ≤ 2 ^ 32 }
     requires within { homes ≤ length slots.old.items }
@@ -48,7 +48,7 @@ pub(crate) fn place(slots: &mut Vec<Slot>, homes: usize, slot: Slot) -> Result<(
     Ok(())
 }
 
-/// Where a key stands, by its mark and the home of its hash.
+/// Returns the place of a key, found by its mark from the home of its hash on.
 pub(crate) fn find(slots: &[Slot], start: usize, mark: u32) -> usize
     requires { HasMark slots.now start mark }
     ensures within { result < length slots.now }
@@ -61,8 +61,8 @@ pub(crate) fn find(slots: &[Slot], start: usize, mark: u32) -> usize
     at
 }
 
-/// Moves the keys behind a gap that would not be found past it, each into the gap that the one
-/// before it left.
+/// Closes a gap. Each key after it that could not be found past the gap moves into it, and leaves
+/// the next gap.
 pub(crate) fn close_gap(slots: &mut [Slot], homes: usize, gap: usize)
     requires few { homes ≤ 2 ^ 32 }
     requires apart { AreSlots slots.old }
@@ -81,8 +81,8 @@ pub(crate) fn close_gap(slots: &mut [Slot], homes: usize, gap: usize)
     }
 }
 
-/// Moves a key into the gap before it where it would not be found past it, and answers where the
-/// gap is then.
+/// Moves a key into the gap before it, if it could not be found past the gap. Returns where the gap
+/// is then.
 fn move_into(slots: &mut [Slot], homes: usize, gap: usize, at: usize) -> usize
     requires few { homes ≤ 2 ^ 32 }
     requires closing { IsClosing homes slots.old gap at }

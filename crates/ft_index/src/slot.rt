@@ -3,7 +3,7 @@
 /// A place for a key with its hash.
 #[derive(Clone, Copy)]
 pub(crate) struct Slot {
-    /// The key and 1, or 0 where the slot is free.
+    /// The key plus 1, or 0 if the slot is free.
     pub(crate) mark: u32,
     pub(crate) hash: u32,
 }

@@ -11,7 +11,7 @@ use std::alloc::{AllocError, Global};
 use std::marker::Model;
 use std::mem;
 
-/// A file, stored.
+/// A stored file.
 #[derive(Drop)]
 pub struct File {
     links: u64,
@@ -25,13 +25,17 @@ impl Model for File {
 
     ghost coded = { coded_file_cells };
 
-    ghost view = { λ a. record { links = a.links; attributes = a.attributes; contents = record { bytes = a.body; time = a.time } } };
+    ghost view = { λ a. record {
+      links = a.links;
+      attributes = a.attributes;
+      contents = record { bytes = a.body; time = a.time };
+    } };
 }
 
-/// What takes one change of the bytes of a file back, with the time that they had. A change leaves
-/// no time.
+/// The undo record of one change of the bytes of a file, with the time that the bytes had. A change
+/// removes the time.
 ///
-/// Clauses see it as what the file held before the change and after it.
+/// Clauses see it as the contents of the file before and after the change.
 pub struct FileUndo {
     body: BodyUndo,
     time: Rare<Timestamp>,
@@ -42,10 +46,13 @@ impl Model for FileUndo {
 
     ghost Value = { ContentsChange };
 
-    ghost view = { λ a. record { before = record { bytes = a.body.before; time = a.time }; after = untimed a.body.after } };
+    ghost view = { λ a. record {
+      before = record { bytes = a.body.before; time = a.time };
+      after = untimed a.body.after;
+    } };
 }
 
-// By hand, so that callers that let one go see one step.
+// (written by hand, so that dropping one is a single step for the caller)
 impl Drop for FileUndo {
     fn drop(self) {
         let FileUndo { body: _, time: _ } = self;
@@ -53,7 +60,7 @@ impl Drop for FileUndo {
 }
 
 impl FileUndo {
-    /// What takes the change of the bytes back, and the time that they had.
+    /// Returns the undo record of the bytes, and the time that they had.
     fn into_parts(self) -> (BodyUndo, Rare<Timestamp>)
         ensures body { result.0 ≡ record { before = self.before.bytes; after = self.after.bytes } }
         ensures time { result.1 ≡ self.before.time }
@@ -64,7 +71,8 @@ impl FileUndo {
 }
 
 impl File {
-    /// A file without attributes and bytes. Takes no memory.
+    /// Returns a file with this number of links and without attributes, bytes or time. Takes no
+    /// memory.
     pub fn new(alloc: Global, links: u64) -> File
         ensures { result ≡ record { links = links; attributes = None; contents = no_contents } }
     {
@@ -76,64 +84,87 @@ impl File {
         }
     }
 
-    /// How many entries name it.
+    /// Returns how many entries name the file.
     pub fn links(&self) -> u64
         ensures { result ≡ self.now.links }
     {
         self.links
     }
 
-    /// The attributes that are kept of it.
+    /// Returns the attributes that are stored of the file.
     pub fn attributes(&self) -> Option<Attributes>
         ensures { result ≡ self.now.attributes }
     {
         self.attributes.get()
     }
 
-    /// The time of its bytes, where one was set.
+    /// Returns the time of the bytes, if one was set.
     pub fn time(&self) -> Option<Timestamp>
         ensures { result ≡ self.now.contents.time }
     {
         self.time.get()
     }
 
-    /// Its bytes.
+    /// Returns the bytes of the file.
     pub fn body(&self) -> &Body
         ensures { result.now ≡ self.now.contents.bytes }
     {
         &self.body
     }
 
-    /// Sets how many entries name it, and answers how many there were.
+    /// Sets how many entries name the file, and returns the previous number.
     pub fn set_links(&mut self, links: u64) -> u64
         ensures was { result ≡ self.old.links }
-        ensures set { self.new ≡ record { links = links; attributes = self.old.attributes; contents = self.old.contents } }
+        ensures set { self.new ≡ record {
+          links = links;
+          attributes = self.old.attributes;
+          contents = self.old.contents;
+        } }
     {
         mem::replace(&mut self.links, links)
     }
 
-    /// Sets the attributes that are kept of it, and answers those that were. Takes no memory.
+    /// Sets the stored attributes of the file, and returns the previous ones. Takes no memory.
     pub fn set_attributes(&mut self, to: Rare<Attributes>) -> Rare<Attributes>
         ensures was { result ≡ self.old.attributes }
-        ensures set { self.new ≡ record { links = self.old.links; attributes = to; contents = self.old.contents } }
+        ensures set { self.new ≡ record {
+          links = self.old.links;
+          attributes = to;
+          contents = self.old.contents;
+        } }
     {
         mem::replace(&mut self.attributes, to)
     }
 
-    /// Sets the time of its bytes, and answers the one that they had. Takes no memory.
+    /// Sets the time of the bytes, and returns the previous one. Takes no memory.
     pub fn set_time(&mut self, to: Rare<Timestamp>) -> Rare<Timestamp>
         ensures was { result ≡ self.old.contents.time }
-        ensures set { self.new ≡ record { links = self.old.links; attributes = self.old.attributes; contents = timed self.old.contents to } }
+        ensures set { self.new ≡ record {
+          links = self.old.links;
+          attributes = self.old.attributes;
+          contents = timed self.old.contents to;
+        } }
     {
         mem::replace(&mut self.time, to)
     }
 
-    /// Writes bytes at an offset, as `Body::write_at` does, and takes the time of the bytes away.
+    /// Writes bytes at an offset, as `Body::write_at` does, and removes the time of the bytes.
+    /// Returns how many bytes were written, and the undo record.
+    ///
+    /// Out of memory is the only error, and it changes nothing. It cannot occur if no byte is
+    /// written.
     pub fn write_at(&mut self, offset: u64, bytes: &[u8]) -> Result<(u64, FileUndo), Memory>
         requires { offset ≤ LARGEST_SIZE }
-        ensures taken { IfOk result (λ done. done.0 ≡ length (fitting LARGEST_SIZE bytes.now offset)) }
-        ensures file { OnOk result (self.new ≡ record { links = self.old.links; attributes = self.old.attributes; contents = untimed (written self.old.contents.bytes offset (fitting LARGEST_SIZE bytes.now offset)) }) }
-        ensures undo { IfOk result (λ done. done.1 ≡ record { before = self.old.contents; after = self.new.contents }) }
+        ensures taken { IfOk result
+            (λ done. done.0 ≡ length (fitting LARGEST_SIZE bytes.now offset)) }
+        ensures file { OnOk result (self.new ≡ record {
+          links = self.old.links;
+          attributes = self.old.attributes;
+          contents = untimed (written self.old.contents.bytes offset
+              (fitting LARGEST_SIZE bytes.now offset));
+        }) }
+        ensures undo { IfOk result
+            (λ done. done.1 ≡ record { before = self.old.contents; after = self.new.contents }) }
         ensures err { OnErr result (self.new ≡ self.old) }
         ensures nothing { fitting LARGEST_SIZE bytes.now offset ≡ [] → IsOk result }
     {
@@ -142,11 +173,20 @@ impl File {
         Ok((taken, FileUndo { body, time }))
     }
 
-    /// Cuts it to a size, or adds zeros up to it, and takes the time of the bytes away.
+    /// Cuts the file to a size, or adds zeros up to that size, and removes the time of the bytes.
+    /// Returns the undo record.
+    ///
+    /// Out of memory is the only error, and it changes nothing. It cannot occur if the file already
+    /// has this size.
     pub fn set_len(&mut self, size: u64) -> Result<FileUndo, Memory>
         requires { size ≤ LARGEST_SIZE }
-        ensures file { OnOk result (self.new ≡ record { links = self.old.links; attributes = self.old.attributes; contents = untimed (resized self.old.contents.bytes size) }) }
-        ensures undo { IfOk result (λ undo. undo ≡ record { before = self.old.contents; after = self.new.contents }) }
+        ensures file { OnOk result (self.new ≡ record {
+          links = self.old.links;
+          attributes = self.old.attributes;
+          contents = untimed (resized self.old.contents.bytes size);
+        }) }
+        ensures undo { IfOk result
+            (λ undo. undo ≡ record { before = self.old.contents; after = self.new.contents }) }
         ensures err { OnErr result (self.new ≡ self.old) }
         ensures nothing { length self.old.contents.bytes ≡ size → IsOk result }
     {
@@ -155,10 +195,14 @@ impl File {
         Ok(FileUndo { body, time })
     }
 
-    /// Takes a change of its bytes back.
+    /// Undoes a change of the bytes. The file must have the contents that the change left.
     pub fn undo(&mut self, undo: FileUndo)
         requires { self.old.contents ≡ undo.after }
-        ensures { self.new ≡ record { links = self.old.links; attributes = self.old.attributes; contents = undo.before } }
+        ensures { self.new ≡ record {
+          links = self.old.links;
+          attributes = self.old.attributes;
+          contents = undo.before;
+        } }
     {
         let (body, time) = undo.into_parts();
         self.body.undo(body);

@@ -1,4 +1,4 @@
-// What stands under one key of the store.
+// The content of one key of the store.
 ghost use Rattle.std.specs.Prelude.{◌≡◌, option_copied, IsSome, Some};
 ghost use Rattle.std.specs.Borrow.{sem};
 ghost use Rattle.ft_inodes.specs.Keyed.{dir_of, file_of, is_node};
@@ -17,7 +17,7 @@ pub(crate) enum Inode {
 }
 
 impl Inode {
-    /// Whether it is this directory or file.
+    /// Returns whether the inode is this directory or file.
     pub(crate) fn is(&self, node: Node) -> bool
         ensures { result ≡ is_node node (Some self.now) }
     {
@@ -28,7 +28,7 @@ impl Inode {
         }
     }
 
-    /// The directory, where it is one.
+    /// Returns the directory, if the inode is one.
     pub(crate) fn directory(&self) -> Option<&Directory>
         ensures { option_copied result ≡ dir_of self.now }
     {
@@ -38,7 +38,7 @@ impl Inode {
         }
     }
 
-    /// The file, where it is one.
+    /// Returns the file, if the inode is one.
     pub(crate) fn file(&self) -> Option<&File>
         ensures { option_copied result ≡ file_of self.now }
     {
@@ -48,7 +48,7 @@ impl Inode {
         }
     }
 
-    /// The directory, to be written.
+    /// Returns the directory, to be written. The inode must be a directory.
     pub(crate) fn directory_mut(&mut self) -> &mut Directory
         requires { IsSome (dir_of self.old) }
         ensures* writes_back { sem 𝓛 (LendsDirOf self.entry result) }
@@ -60,7 +60,7 @@ impl Inode {
         }
     }
 
-    /// The file, to be written.
+    /// Returns the file, to be written. The inode must be a file.
     pub(crate) fn file_mut(&mut self) -> &mut File
         requires { IsSome (file_of self.old) }
         ensures* writes_back { sem 𝓛 (LendsFileOf self.entry result) }

@@ -1,10 +1,10 @@
-// The store of directories and files: each stands in a slab, and an index has its key.
+// The store of directories and files: each is in a slab, and an index has its key.
 ghost use Rattle.std.specs.Prelude.{◌≡◌, ◌↔◌, ℕ, true, cond, is_some, option_copied, None, Some, OnOk, OnErr};
 ghost use Rattle.std.specs.Option.{option_copied_mut};
 ghost use Rattle.std.specs.Ordering.{nat_cmp};
 ghost use Rattle.std.specs.Borrow.{sem};
 ghost use Rattle.std.specs.BTreeMap.{is_at};
-ghost use Rattle.std.specs.FinMap as map;
+ghost use Rattle.std.specs.FinMap as finite;
 ghost use Rattle.slab.specs.Slab.{get, SameValues};
 ghost use Rattle.ft_inodes.specs.Stored.{no_inode, is_stored, with_directory, with_file, without_directory, without_file};
 ghost use Rattle.ft_cells.specs.Nodes.{number_of};
@@ -22,9 +22,9 @@ use std::marker::Model;
 
 /// The directories and files of a tree, each under its number.
 ///
-/// All stand in one slab, whose keys are used again, and an index by number has the key of each. To
-/// find one of them, to add one or to take one out takes constant time, and a right hint spares the
-/// look into the index. A number, or a key, of more than 32 bits is refused for want of memory.
+/// All of them are in one slab, whose keys are reused. An index by number has the key of each.
+/// Finding, adding or removing one takes constant time, and a correct hint saves the lookup in the
+/// index. A number or a key of more than 32 bits is refused as out of memory.
 #[derive(Drop)]
 pub struct Inodes {
     slab: Slab<Inode>,
@@ -40,7 +40,10 @@ impl Model for Inodes {
 
     ghost coded = { coded_inode_cells };
 
-    ghost view = { λ a. record { directories = shown_by dir_in a.slab a.directories; files = shown_by file_in a.slab a.files } };
+    ghost view = { λ a. record {
+      directories = shown_by dir_in a.slab a.directories;
+      files = shown_by file_in a.slab a.files;
+    } };
 
     ghost invariant = { λ a. Leads is_dir a.slab a.directories × Leads is_file a.slab a.files };
 }
@@ -48,7 +51,7 @@ impl Model for Inodes {
 impl Inodes {
     ghost use Rattle.ft_inodes.specs.Lending.{LendsDirectory, LendsFile};
 
-    /// No directory and no file. Takes no memory.
+    /// Returns a store with no directory and no file. Takes no memory.
     pub fn new(alloc: Global) -> Inodes
         ensures { result ≡ no_inode }
     {
@@ -59,7 +62,7 @@ impl Inodes {
         }
     }
 
-    /// Where a directory or a file stands; nothing, where it is not stored.
+    /// Returns a hint of where a directory or a file is, or `None` if it is not stored.
     pub fn find(&self, node: Node, near: Hint) -> Option<Hint>
         ensures { is_some result ≡ is_stored self.now node }
     {
@@ -72,22 +75,22 @@ impl Inodes {
         .map(|key| Hint { key })
     }
 
-    /// Where a directory or a file stands, or else `near`, where it is not stored.
+    /// Returns a hint of where a directory or a file is, or `near` if it is not stored.
     pub fn hint_of(&self, node: Node, near: Hint) -> Hint {
         self.find(node, near).unwrap_or(near)
     }
 
-    /// The directory of a number.
+    /// Returns the directory with a number, if there is one.
     pub fn directory(&self, number: u64, near: Hint) -> Option<&Directory>
-        ensures { option_copied result ≡ map.get self.now.directories number }
+        ensures { option_copied result ≡ finite.get self.now.directories number }
     {
         let key = key_of(&self.slab, &self.directories, Node::Dir(number), near)?;
         self.slab.get(key)?.directory()
     }
 
-    /// The file of a number.
+    /// Returns the file with a number, if there is one.
     pub fn file(&self, number: u64, near: Hint) -> Option<&File>
-        ensures { option_copied result ≡ map.get self.now.files number }
+        ensures { option_copied result ≡ finite.get self.now.files number }
     {
         let key = key_of(
             &self.slab,
@@ -98,22 +101,22 @@ impl Inodes {
         self.slab.get(key)?.file()
     }
 
-    /// The directory of a number, to be written: what is left behind the reference is the number's
-    /// directory from then on. Takes no memory.
+    /// Returns the directory with a number, if there is one, to be written. The value that the
+    /// reference has at its end is then stored under the number. Takes no memory.
     pub fn directory_mut(&mut self, number: u64, near: Hint) -> Option<&mut Directory>
         ensures* writes_back { sem 𝓛 (LendsDirectory self.entry number result) }
-        ensures value { option_copied_mut result ≡ map.get self.old.directories number }
+        ensures value { option_copied_mut result ≡ finite.get self.old.directories number }
     {
         let key = key_of(&self.slab, &self.directories, Node::Dir(number), near)?;
         let inode = self.slab.get_mut(key).unwrap();
         Some(inode.directory_mut())
     }
 
-    /// The file of a number, to be written: what is left behind the reference is the number's file
-    /// from then on. Takes no memory.
+    /// Returns the file with a number, if there is one, to be written. The value that the reference
+    /// has at its end is then stored under the number. Takes no memory.
     pub fn file_mut(&mut self, number: u64, near: Hint) -> Option<&mut File>
         ensures* writes_back { sem 𝓛 (LendsFile self.entry number result) }
-        ensures value { option_copied_mut result ≡ map.get self.old.files number }
+        ensures value { option_copied_mut result ≡ finite.get self.old.files number }
     {
         let key = key_of(
             &self.slab,
@@ -125,10 +128,10 @@ impl Inodes {
         Some(inode.file_mut())
     }
 
-    /// Adds a directory, under a number that no directory has, and answers where it stands. Want of
-    /// memory changes nothing.
+    /// Adds a directory under a number that no directory has, and returns a hint of where it is.
+    /// Out of memory is the only error, and it changes nothing.
     pub fn add_directory(&mut self, number: u64, directory: Directory) -> Result<Hint, Memory>
-        requires { map.get self.old.directories number ≡ None }
+        requires { finite.get self.old.directories number ≡ None }
         ensures ok { OnOk result (self.new ≡ with_directory self.old number directory) }
         ensures err { OnErr result (self.new ≡ self.old) }
     {
@@ -136,10 +139,10 @@ impl Inodes {
         add(&mut self.slab, &mut self.directories, number, inode)
     }
 
-    /// Adds a file, under a number that no file has, and answers where it stands. Want of memory
-    /// changes nothing.
+    /// Adds a file under a number that no file has, and returns a hint of where it is. Out of
+    /// memory is the only error, and it changes nothing.
     pub fn add_file(&mut self, number: u64, file: File) -> Result<Hint, Memory>
-        requires { map.get self.old.files number ≡ None }
+        requires { finite.get self.old.files number ≡ None }
         ensures ok { OnOk result (self.new ≡ with_file self.old number file) }
         ensures err { OnErr result (self.new ≡ self.old) }
     {
@@ -147,30 +150,31 @@ impl Inodes {
         add(&mut self.slab, &mut self.files, number, inode)
     }
 
-    /// Drops the directory of a number, where there is one. Takes no memory.
+    /// Removes the directory with a number, if there is one. Takes no memory.
     pub fn drop_directory(&mut self, number: u64)
         ensures { self.new ≡ without_directory self.old number }
     {
         take_out(&mut self.slab, &mut self.directories, number);
     }
 
-    /// Drops the file of a number, where there is one. Takes no memory.
+    /// Removes the file with a number, if there is one. Takes no memory.
     pub fn drop_file(&mut self, number: u64)
         ensures { self.new ≡ without_file self.old number }
     {
         take_out(&mut self.slab, &mut self.files, number);
     }
 
-    /// How many directories there are.
+    /// Returns how many directories are stored.
     pub fn directory_count(&self) -> usize
-        ensures { result ≡ map.len self.now.directories }
+        ensures { result ≡ finite.len self.now.directories }
     {
         self.directories.len()
     }
 
-    /// The directories with their numbers, in rising order of the numbers. Takes no memory.
+    /// Returns an iterator over the directories with their numbers, in rising order of the numbers.
+    /// Takes no memory.
     pub fn directories(&self) -> Directories<'_>
-        ensures { result ≡ map.entries self.now.directories }
+        ensures { result ≡ finite.entries self.now.directories }
     {
         Directories {
             slab: &self.slab,
@@ -178,9 +182,10 @@ impl Inodes {
         }
     }
 
-    /// The files with their numbers, in rising order of the numbers. Takes no memory.
+    /// Returns an iterator over the files with their numbers, in rising order of the numbers. Takes
+    /// no memory.
     pub fn files(&self) -> Files<'_>
-        ensures { result ≡ map.entries self.now.files }
+        ensures { result ≡ finite.entries self.now.files }
     {
         Files {
             slab: &self.slab,
@@ -204,9 +209,11 @@ impl Clone for Inodes {
     }
 }
 
-/// The key of a directory or file, through its index: the one hinted at where it stands there.
+/// Returns the key of a directory or file, if it is stored. This is the hinted key if the node is
+/// there, and otherwise the key in the index.
 fn key_of(slab: &Slab<Inode>, index: &PagedMap<u32>, node: Node, near: Hint) -> Option<usize>
-    requires { (key : ℕ) → (key_in index.now (number_of node) ≡ Some key) ↔ (is_node node (get slab.now key) ≡ true) }
+    requires { (key : ℕ) → (key_in index.now (number_of node) ≡ Some key)
+        ↔ (is_node node (get slab.now key) ≡ true) }
     ensures { result ≡ key_in index.now (number_of node) }
 {
     match slab.get(near.key) {
@@ -215,8 +222,8 @@ fn key_of(slab: &Slab<Inode>, index: &PagedMap<u32>, node: Node, near: Hint) -> 
     }
 }
 
-/// Puts an inode under a key that was free, to which its number leads from then on. Want of memory
-/// changes nothing.
+/// Adds an inode under a free key, to which its number then leads, and returns a hint with this
+/// key. Out of memory is the only error, and it changes no inode and no number.
 fn add(
     slab: &mut Slab<Inode>,
     index: &mut PagedMap<u32>,
@@ -237,11 +244,13 @@ fn add(
     Ok(Hint { key })
 }
 
-/// Takes a number with its inode out, where it leads to one.
+/// Removes a number from the index and its inode from the slab, if the number leads to one.
 fn take_out(slab: &mut Slab<Inode>, index: &mut PagedMap<u32>, number: u64)
-    ensures slots { (key : ℕ) → (key_in index.old number ≡ Some key → ⊥) → get slab.new key ≡ get slab.old key }
+    ensures slots { (key : ℕ) → (key_in index.old number ≡ Some key → ⊥)
+        → get slab.new key ≡ get slab.old key }
     ensures emptied { (key : ℕ) → key_in index.old number ≡ Some key → get slab.new key ≡ None }
-    ensures index { (q : ℕ) → key_in index.new q ≡ cond (is_at (nat_cmp number) q) None (key_in index.old q) }
+    ensures index { (q : ℕ) → key_in index.new q
+        ≡ cond (is_at (nat_cmp number) q) None (key_in index.old q) }
 {
     if let Some(key) = index.remove(number) {
         slab.try_remove(key as usize);

@@ -1,4 +1,4 @@
-//! How directories and files are stored: as inodes, each under its number.
+//! The store of directories and files: they are stored as inodes, each under its number.
 //!
 //! The rules are those of POSIX.1-2017, Base Definitions, 3 (Definitions: Directory, File, File
 //! Serial Number, Link Count). That directories and files have numbers is a rule of this project.
@@ -18,5 +18,5 @@ pub use file::{File, FileUndo};
 pub use inodes::Inodes;
 pub use listed::{Directories, Files};
 
-/// How many places of a directory are searched one after another, without an index.
+/// The most places of a directory that are searched one after another, without an index.
 const FEW_PLACES: usize = 8;

@@ -1,4 +1,4 @@
-// Walks over the store in the order of the numbers.
+// Iterators over the store, in the order of the numbers.
 ghost use Rattle.std.specs.Iterator.{YieldsFirstBy, item_count};
 
 use crate::directory::Directory;
@@ -8,7 +8,8 @@ use ft_base::PagedEntries;
 use slab::Slab;
 use std::marker::Model;
 
-/// The directories of a store with their numbers, seen as the list of those that are left.
+/// An iterator over the directories of a store with their numbers. Clauses see it as the list of
+/// the items that are left.
 #[derive(Drop)]
 pub struct Directories<'a> {
     pub(crate) slab: &'a Slab<Inode>,
@@ -44,7 +45,8 @@ impl<'a> Iterator for Directories<'a> {
     }
 }
 
-/// The files of a store with their numbers, seen as the list of those that are left.
+/// An iterator over the files of a store with their numbers. Clauses see it as the list of the
+/// items that are left.
 #[derive(Drop)]
 pub struct Files<'a> {
     pub(crate) slab: &'a Slab<Inode>,

@@ -1,4 +1,4 @@
-// The places of many names, found by the hashes of these.
+// The index of the places of many names, by the hashes of the names.
 ghost use Rattle.std.specs.Prelude.{◌≡◌, ◌<◌, ◌++◌, ◌∷◌, [], ℕ, List, IfOk, OnOk, OnErr, length};
 ghost use Rattle.ft_inodes.specs.Named.{names_in, AreIndexed, IsFoundAt, IsSwapped};
 
@@ -8,7 +8,7 @@ use ft_index::Index;
 use ft_path::Name;
 use std::alloc::Global;
 
-/// Which of the places have names of which hash, under a seed.
+/// An index of places by the hashes of their names, under a seed.
 #[derive(Drop)]
 pub(crate) struct NameIndex {
     seed: u64,
@@ -16,7 +16,7 @@ pub(crate) struct NameIndex {
 }
 
 impl NameIndex {
-    /// An index of the names of some places.
+    /// Returns an index of the names of some places. Out of memory is the only error.
     pub(crate) fn of(alloc: Global, places: &[Place], seed: u64) -> Result<NameIndex, Memory>
         ensures { IfOk result (λ index. AreIndexed index (names_in places.now)) }
     {
@@ -27,14 +27,15 @@ impl NameIndex {
         Ok(NameIndex { seed, keys })
     }
 
-    /// The same index of the names of places that are alike.
+    /// Returns an index of the names of these places, under the seed of this index. Out of memory
+    /// is the only error.
     pub(crate) fn again(&self, alloc: Global, places: &[Place]) -> Result<NameIndex, Memory>
         ensures { IfOk result (λ index. AreIndexed index (names_in places.now)) }
     {
         NameIndex::of(alloc, places, self.seed)
     }
 
-    /// Where a name stands.
+    /// Returns where a name is among the places, if it is there.
     pub(crate) fn find(&self, places: &[Place], name: &Name) -> Option<usize>
         requires { AreIndexed self.now (names_in places.now) }
         ensures { IsFoundAt (names_in places.now) name.now result }
@@ -47,7 +48,8 @@ impl NameIndex {
         None
     }
 
-    /// Notes a name that is to stand behind these places. Want of memory changes nothing.
+    /// Adds a name that is to come after these places. Out of memory is the only error, and it
+    /// changes nothing.
     pub(crate) fn push(&mut self, places: &[Place], name: &Name) -> Result<(), Memory>
         requires { AreIndexed self.old (names_in places.now) }
         ensures ok { OnOk result (AreIndexed self.new (names_in places.now ++ name.now ∷ [])) }
@@ -57,11 +59,12 @@ impl NameIndex {
         self.keys.insert(places.len(), hash)
     }
 
-    /// Forgets the name of a place, which the last place comes to. Takes no memory.
+    /// Removes the name of the place `at`, to which the last place then moves. Takes no memory.
     pub(crate) fn swap_remove(&mut self, places: &[Place], at: usize)
         requires indexed { AreIndexed self.old (names_in places.now) }
         requires within { at < length places.now }
-        ensures { (names : List (List ℕ)) → IsSwapped (names_in places.now) names at → AreIndexed self.new names }
+        ensures { (names : List (List ℕ)) → IsSwapped (names_in places.now) names at
+            → AreIndexed self.new names }
     {
         let last = places.len() - 1;
         let seed = self.seed;

@@ -17,11 +17,11 @@ use std::alloc::{AllocError, Global};
 use std::marker::Model;
 use std::mem::replace;
 
-/// A place for each name of a directory, in no order. Clauses see it as a map from names to what
-/// they lead to.
+/// A place for each name of a directory, in no order. Clauses see it as a map from the names to
+/// what they lead to.
 ///
-/// A name is found in constant time: where there are more than a few places, an index by the hashes
-/// of the names stands beside them.
+/// A name is found in constant time. If there are more than a few places, there is also an index by
+/// the hashes of the names.
 #[derive(Drop)]
 pub(crate) struct Places {
     places: Vec<Place>,
@@ -45,7 +45,7 @@ impl Model for Places {
 }
 
 impl Places {
-    /// No place. Takes no memory.
+    /// Returns no places. Takes no memory.
     pub(crate) fn new(alloc: Global) -> Places
         ensures { result ≡ finite.empty }
     {
@@ -55,7 +55,7 @@ impl Places {
         }
     }
 
-    /// What stands in the place of a name, if it has one.
+    /// Returns the content of the place of a name, if the name has a place.
     pub(crate) fn get(&self, name: &Name) -> Option<&Option<Hinted<Node>>>
         ensures { option_copied result ≡ finite.get self.now name.now }
     {
@@ -63,15 +63,17 @@ impl Places {
         Some(&self.places[at].child)
     }
 
-    /// Whether there is no place.
+    /// Returns whether there is no place.
     pub(crate) fn is_empty(&self) -> bool
         ensures { result ≡ (finite.len self.now == 0) }
     {
         self.places.is_empty()
     }
 
-    /// Sets what stands in the place of a name, and answers what stood there, if it had one. Only a
-    /// new place can want memory; an index is made under the seed.
+    /// Sets the content of the place of a name, and returns the previous content, if the name had a
+    /// place. An index, if one is made, is under the seed.
+    ///
+    /// Out of memory is the only error. It changes nothing, and can occur only if the place is new.
     pub(crate) fn insert(
         &mut self,
         name: Name,
@@ -93,7 +95,7 @@ impl Places {
         Ok(None)
     }
 
-    /// Takes the place of a name away, if it has one.
+    /// Removes the place of a name, if the name has one.
     pub(crate) fn remove(&mut self, name: &Name)
         ensures { self.new ≡ finite.remove self.old name.now }
     {
@@ -102,7 +104,7 @@ impl Places {
         }
     }
 
-    /// The places in the order of their names.
+    /// Returns the places in the order of their names. Out of memory is the only error.
     pub(crate) fn sorted(&self, alloc: Global) -> Result<Vec<&Place>, Memory>
         ensures { IfOk result (λ places. shown places.items ≡ finite.entries self.now) }
     {
@@ -111,7 +113,7 @@ impl Places {
         Ok(places)
     }
 
-    /// Whether nothing stands in any place.
+    /// Returns whether all places are empty.
     pub(crate) fn are_empty(&self) -> bool
         ensures { IsTrue result ↔ (filter_map filled (finite.entries self.now) ≡ []) }
     {
@@ -132,7 +134,7 @@ impl Clone for Places {
     }
 }
 
-/// Where a name stands.
+/// Returns where a name is among the places, if it is there.
 fn find(index: &Option<Box<NameIndex>>, places: &[Place], name: &Name) -> Option<usize>
     requires { IsKeptBy index.now (names_in places.now) }
     ensures { IsFoundAt (names_in places.now) name.now result }
@@ -143,7 +145,7 @@ fn find(index: &Option<Box<NameIndex>>, places: &[Place], name: &Name) -> Option
     }
 }
 
-/// Where a name stands, by a search of one place after another.
+/// Returns where a name is, if it is there, by searching one place after another.
 fn search(places: &[Place], name: &Name) -> Option<usize>
     ensures { IsFoundAt (names_in places.now) name.now result }
 {
@@ -155,15 +157,15 @@ fn search(places: &[Place], name: &Name) -> Option<usize>
     None
 }
 
-/// Whether nothing stands in any of these places.
+/// Returns whether all these places are empty.
 fn all_empty(places: &[Place]) -> bool
     ensures { result ≡ list_all (λ place. is_none place.child) places.now }
 {
     places.iter().all(|place| place.child.is_none())
 }
 
-/// Makes an index of the places, if there are so many of them and it is not there. Want of memory
-/// changes nothing.
+/// Makes an index of the places, if there are enough of them and no index exists. Out of memory is
+/// the only error, and it changes nothing.
 fn have_index(
     index: &mut Option<Box<NameIndex>>,
     places: &Vec<Place>,
@@ -181,8 +183,8 @@ fn have_index(
     Ok(())
 }
 
-/// Notes a name that is to stand behind these places, where they have an index. Want of memory
-/// changes nothing.
+/// Adds a name that is to come after these places to their index, if there is one. Out of memory is
+/// the only error, and it changes nothing.
 fn note_next(
     index: &mut Option<Box<NameIndex>>,
     places: &[Place],
@@ -198,19 +200,20 @@ fn note_next(
     }
 }
 
-/// Forgets the name of a place, which the last place comes to, where they have an index. Takes no
-/// memory.
+/// Removes the name of the place `at`, to which the last place then moves, from the index, if there
+/// is one. Takes no memory.
 fn forget(index: &mut Option<Box<NameIndex>>, places: &[Place], at: usize)
     requires kept { IsKeptBy index.old (names_in places.now) }
     requires within { at < length places.now }
-    ensures { (names : List (List ℕ)) → IsSwapped (names_in places.now) names at → IsKeptBy index.new names }
+    ensures { (names : List (List ℕ)) → IsSwapped (names_in places.now) names at
+        → IsKeptBy index.new names }
 {
     if let Some(index) = index {
         index.swap_remove(places, at);
     }
 }
 
-/// Takes out a place, which the last place comes to. Takes no memory.
+/// Removes the place `at`, and moves the last place there. Takes no memory.
 fn take_out(index: &mut Option<Box<NameIndex>>, places: &mut Vec<Place>, at: usize)
     requires kept { IsKeptBy index.old (names_in places.old.items) }
     requires within { at < length places.old.items }
@@ -221,7 +224,8 @@ fn take_out(index: &mut Option<Box<NameIndex>>, places: &mut Vec<Place>, at: usi
     places.swap_remove(at);
 }
 
-/// An index of copies of the places that an index is of.
+/// Returns an index of these places, which are copies of the places of the given index. Out of
+/// memory is the only error.
 fn made_again(index: &NameIndex, places: &Vec<Place>) -> Result<Box<NameIndex>, AllocError>
     ensures { IfOk result (λ index. AreIndexed index.value (names_in places.now.items)) }
 {
@@ -232,7 +236,7 @@ fn made_again(index: &NameIndex, places: &Vec<Place>) -> Result<Box<NameIndex>, 
     Ok(Box::new(alloc, made)?)
 }
 
-/// The places, as they stand.
+/// Returns references to the places, in their stored order. Out of memory is the only error.
 fn listed(alloc: Global, places: &[Place]) -> Result<Vec<&Place>, Memory>
     ensures { IfOk result (λ listed. shown listed.items ≡ pairs_in places.now) }
 {
@@ -243,7 +247,7 @@ fn listed(alloc: Global, places: &[Place]) -> Result<Vec<&Place>, Memory>
     Ok(listed)
 }
 
-/// Puts places in the order of their names. Takes no memory.
+/// Sorts places by their names. Takes no memory.
 fn sort_by_name(places: &mut Vec<&Place>)
     ensures same { IsPermutation places.old.items places.new.items }
     ensures rising { IsSortedBy is_before places.new.items }

@@ -2,8 +2,8 @@
 // reports.
 use ft_base::{Memory, Sequence};
 use ft_core::TxnId;
+use ft_job_reports::{End, Report, ended_as_meant, is_must, place_of};
 use ft_plan::{Job, JobName};
-use ft_reports::{End, Report, ended_as_meant, is_must, place_of};
 use std::alloc::Global;
 use std::sync::{Condvar, Mutex, Wait};
 
@@ -15,14 +15,14 @@ pub struct Board {
     moved: Condvar,
 }
 
-// All jobs, each with its report, which is that of a job not started until it ends.
+/// All jobs, each with its report, which is that of a job not started until it ends.
 #[derive(Drop)]
 struct Places {
     places: Vec<Place>,
     reports: Vec<Report>,
 }
 
-// A job among the others.
+/// A job among the others.
 #[derive(Drop)]
 struct Place {
     // The place of the job that it is a subjob of, if it is one.
@@ -34,7 +34,7 @@ struct Place {
     phase: Phase,
 }
 
-// How far a job has come.
+/// How far a job has come.
 #[derive(Clone, Copy)]
 enum Phase {
     // No thread has taken it yet.
@@ -109,7 +109,7 @@ impl Board {
         self.moved.notify_all();
     }
 
-    /// Whether no subjob of a job takes it along, once all have ended.
+    /// Returns whether no subjob of a job takes it along, once all have ended.
     pub fn is_spared<R: Wait>(&self, rt: &R, job: usize) -> bool {
         self.places.lock(rt).is_spared(job)
     }
@@ -120,7 +120,7 @@ impl Board {
         self.moved.notify_all();
     }
 
-    /// The reports of all jobs, in their order.
+    /// Returns the reports of all jobs, in their order.
     pub fn into_reports(self) -> Vec<Report> {
         let Board { places, moved: _ } = self;
         let Places { places: _, reports } = places.into_inner();
@@ -129,7 +129,7 @@ impl Board {
 }
 
 impl Place {
-    // That of a job among these, which was not taken.
+    /// Returns the place of a job among these jobs, which was not taken.
     fn of(alloc: Global, jobs: &[Job], job: &Job) -> Result<Place, Memory> {
         let parent = match &job.parent {
             None => None,
@@ -143,16 +143,18 @@ impl Place {
         })
     }
 
+    /// Returns whether no thread has taken the job yet.
     fn is_ahead(&self) -> bool {
         matches!(self.phase, Phase::Ahead)
     }
 
+    /// Returns whether the job has ended.
     fn has_ended(&self) -> bool {
         matches!(self.phase, Phase::Ended)
     }
 }
 
-// Returns the places of the jobs of these names.
+/// Returns the places of the jobs of these names.
 fn places_of(alloc: Global, jobs: &[Job], names: &[JobName]) -> Result<Vec<usize>, Memory> {
     let mut places = Vec::new(alloc);
     for name in names {
@@ -164,29 +166,29 @@ fn places_of(alloc: Global, jobs: &[Job], names: &[JobName]) -> Result<Vec<usize
 }
 
 impl Places {
-    // The first job that may start.
+    /// Returns the first job that may start.
     fn next(&self) -> Option<usize> {
         self.places.iter().position(|place| self.may_start(place))
     }
 
-    // The first subjob of a job that may start.
+    /// Returns the first subjob of a job that may start.
     fn next_below(&self, parent: usize) -> Option<usize> {
         self.places.iter().position(|place| place.parent == Some(parent) && self.may_start(place))
     }
 
-    // Whether a job was not taken.
+    /// Returns whether there is a job that was not taken.
     fn has_ahead(&self) -> bool {
         self.places.iter().any(|place| place.is_ahead())
     }
 
-    // Whether a subjob of a job has not ended.
+    /// Returns whether a subjob of a job has not ended.
     fn has_live_below(&self, parent: usize) -> bool {
         self.places
             .iter()
             .any(|place| place.parent == Some(parent) && !place.has_ended())
     }
 
-    // Whether it is known how a job begins that was not taken.
+    /// Returns whether a job was not taken, and it is known how the job begins.
     fn may_start(&self, place: &Place) -> bool {
         if !place.is_ahead() {
             return false;
@@ -198,6 +200,7 @@ impl Places {
         is_open && place.after.iter().all(|at| self.has_ended(*at))
     }
 
+    /// Returns how a job that was taken begins. A job that does not exist never begins.
     fn start_of(&self, job: usize) -> Start {
         let Some(place) = self.places.get(job) else {
             return Start::Never;
@@ -214,7 +217,7 @@ impl Places {
         }
     }
 
-    // How far a job has come. One that is not there has ended.
+    /// Returns how far a job has come. A job that does not exist has ended.
     fn phase(&self, job: usize) -> Phase {
         match self.places.get(job) {
             None => Phase::Ended,
@@ -222,10 +225,12 @@ impl Places {
         }
     }
 
+    /// Returns whether a job has ended. A job that does not exist has ended.
     fn has_ended(&self, job: usize) -> bool {
         matches!(self.phase(job), Phase::Ended)
     }
 
+    /// Returns whether the report of a job says that it has committed.
     fn has_committed(&self, job: usize) -> bool {
         match self.reports.get(job) {
             None => false,
@@ -233,18 +238,21 @@ impl Places {
         }
     }
 
+    /// Returns whether no subjob takes the job along: each that would has ended as meant.
     fn is_spared(&self, job: usize) -> bool {
         self.places.iter().zip(&self.reports).all(|(place, report)| {
             !place.is_must || place.parent != Some(job) || ended_as_meant(report)
         })
     }
 
+    /// Notes how far a job has come, if the job exists.
     fn set_phase(&mut self, job: usize, phase: Phase) {
         if let Some(place) = self.places.get_mut(job) {
             place.phase = phase;
         }
     }
 
+    /// Notes that a job has ended, with its report.
     fn end(&mut self, job: usize, report: Report) {
         if let Some(place) = self.reports.get_mut(job) {
             *place = report;

@@ -4,8 +4,10 @@ ghost use Rattle.std.specs.Prelude.{◌≤◌};
 use crate::board::{Board, Start};
 use crate::gate::Gate;
 use ft_core::{Fault, Outcome, TxnId};
+use ft_job_reports::{
+    CallReport, End, Report, call_of_step, goes_on, is_strict, opened_descriptor,
+};
 use ft_plan::{Job, Step};
-use ft_reports::{CallReport, End, Report, asked, descriptor_in, goes_on, is_strict};
 use ft_shared::Manager;
 use std::alloc::Global;
 use std::sync::Wait;
@@ -46,7 +48,8 @@ pub fn run_in_turn<M: Manager, G: Gate, R: Wait + Clock>(rt: &R, work: &Work<'_,
     }
 }
 
-// The next job for a thread: a subjob of the job that was parked last, or any if there is none.
+/// Takes the next job for a thread: a subjob of the job that was parked last, or any job if none is
+/// parked.
 fn taken<M: Manager, G: Gate, R: Wait>(
     rt: &R,
     work: &Work<'_, M, G>,
@@ -58,7 +61,7 @@ fn taken<M: Manager, G: Gate, R: Wait>(
     }
 }
 
-// Begins a job's transaction. If it has none, the job ends.
+/// Begins a job's transaction. If it has none, the job ends.
 fn begun<'a, M: Manager, G: Gate, R: Wait + Clock>(
     rt: &R,
     work: &Work<'a, M, G>,
@@ -89,7 +92,7 @@ fn begun<'a, M: Manager, G: Gate, R: Wait + Clock>(
     }
 }
 
-// The report of a job that has no transaction.
+/// Returns the report of a job that has no transaction.
 fn unbegun(alloc: Global, at: usize, end: End) -> Report {
     Report {
         job: at as u64,
@@ -99,14 +102,15 @@ fn unbegun(alloc: Global, at: usize, end: End) -> Report {
     }
 }
 
-// Notes how a job has ended.
+/// Notes how a job has ended.
 fn end<M: Manager, G: Gate, R: Wait + Clock>(rt: &R, work: &Work<'_, M, G>, report: Report) {
     let job = report.job;
     work.board.end(rt, job as usize, report);
     work.gate.ended(rt, job);
 }
 
-// Passes the step at which the subjobs of a job have ended. If one of them takes it along, it ends.
+/// Passes the step at which the subjobs of a job have ended. If one of them takes the job along,
+/// the job ends.
 fn passed<'a, M: Manager, G: Gate, R: Wait + Clock>(
     rt: &R,
     work: &Work<'a, M, G>,
@@ -122,7 +126,7 @@ fn passed<'a, M: Manager, G: Gate, R: Wait + Clock>(
     Some(run)
 }
 
-// Makes the steps of a job up to its end, or until its subjobs start: then it is parked.
+/// Makes the steps of a job up to its end, or until its subjobs start: then the job is parked.
 fn go_on<'a, M: Manager, G: Gate, R: Wait + Clock>(
     rt: &R,
     work: &Work<'a, M, G>,
@@ -136,8 +140,8 @@ fn go_on<'a, M: Manager, G: Gate, R: Wait + Clock>(
     }
 }
 
-// Lets the subjobs of a job start, and parks it until they have ended. If there is not enough
-// memory for that, it ends.
+/// Lets the subjobs of a job start, and parks it until they have ended. If there is not enough
+/// memory for that, the job ends.
 fn park<'a, M: Manager, G: Gate, R: Wait + Clock>(
     rt: &R,
     work: &Work<'a, M, G>,
@@ -153,7 +157,7 @@ fn park<'a, M: Manager, G: Gate, R: Wait + Clock>(
     let _ = parked.push(run);
 }
 
-// Why a job goes no further for now.
+/// Why a job goes no further for now.
 #[derive(Clone, Copy)]
 enum Stop {
     // Its subjobs start.
@@ -162,7 +166,7 @@ enum Stop {
     Ended(End),
 }
 
-// A job on its way: the calls that it was granted, and what each step so far opened.
+/// A running job: the calls that it was granted, and what each step so far opened.
 #[derive(Drop)]
 struct Run<'a> {
     // Its place in the plan.
@@ -176,7 +180,7 @@ struct Run<'a> {
 }
 
 impl Run<'_> {
-    // Makes the next steps one after another, until its subjobs start or one ends the job.
+    /// Makes the next steps one after another, until its subjobs start or one ends the job.
     fn steps<M: Manager, G: Gate, R: Wait + Clock>(
         &mut self,
         rt: &R,
@@ -207,8 +211,8 @@ impl Run<'_> {
         Stop::Ended(abort(rt, work, self.txn))
     }
 
-    // Asks for the call of a step, and returns the descriptor that it opened, or 0. The places of
-    // both and the call's copy are made before, so that a call that is granted is reported.
+    /// Requests the call of a step, and returns the descriptor that it opened, or 0. The places of
+    /// both and the copy of the call are made before, so that a granted call is reported.
     fn ask<M: Manager, G: Gate, R: Wait + Clock>(
         &mut self,
         rt: &R,
@@ -218,7 +222,7 @@ impl Run<'_> {
         if self.calls.try_reserve(1).is_err() || self.descriptors.try_reserve(1).is_err() {
             return Err(self.failing(End::Refused(Fault::Memory)));
         }
-        let Ok(Some(call)) = asked(work.alloc, step, self.descriptors.as_slice()) else {
+        let Ok(Some(call)) = call_of_step(work.alloc, step, self.descriptors.as_slice()) else {
             return Err(self.failing(End::Refused(Fault::Memory)));
         };
         match work.manager.ask_wait(rt, self.txn, &call, work.turns) {
@@ -230,10 +234,10 @@ impl Run<'_> {
         }
     }
 
-    // Notes the call that a step was granted, and returns the descriptor that it opened, or 0. In a
-    // strict job the step fails if its call did, and is not tried.
+    /// Notes the call that a step was granted, and returns the descriptor that it opened, or 0. In
+    /// a strict job the step fails if its call failed and the step is not tried.
     fn granted(&mut self, step: &Step, call: CallReport) -> Result<u64, End> {
-        let descriptor = descriptor_in(&call.reply);
+        let descriptor = opened_descriptor(&call.reply);
         let fails = is_strict(self.job.kind) && !goes_on(step, &call);
         let _ = self.calls.push(call);
         if fails {
@@ -242,7 +246,8 @@ impl Run<'_> {
         Ok(descriptor)
     }
 
-    // How the job ends if its step could not be made, which would end it so if it were not strict.
+    /// Returns how the job ends if its step could not be made. A job that is not strict ends with
+    /// this end.
     fn failing(&self, end: End) -> End {
         if is_strict(self.job.kind) {
             return End::Failed(self.number);
@@ -250,7 +255,8 @@ impl Run<'_> {
         end
     }
 
-    // Ends the job so, once its transaction is aborted if one of its steps could not be made.
+    /// Ends the job in this way. If one of its steps could not be made, its transaction is aborted
+    /// first.
     fn finish<M: Manager, G: Gate, R: Wait + Clock>(self, rt: &R, work: &Work<'_, M, G>, how: End) {
         if matches!(how, End::Waited | End::Refused(_) | End::Failed(_)) {
             // It may have ended with one above it, and then this is refused.
@@ -266,7 +272,7 @@ impl Run<'_> {
     }
 }
 
-// Commits a job's transaction, and returns how the job ends.
+/// Commits a job's transaction, and returns how the job ends.
 fn commit<M: Manager, G: Gate, R: Wait + Clock>(rt: &R, work: &Work<'_, M, G>, txn: TxnId) -> End {
     match work.manager.commit(rt, txn) {
         Ok(()) => End::Committed,
@@ -274,7 +280,7 @@ fn commit<M: Manager, G: Gate, R: Wait + Clock>(rt: &R, work: &Work<'_, M, G>, t
     }
 }
 
-// Aborts a job's transaction, and returns how the job ends.
+/// Aborts a job's transaction, and returns how the job ends.
 fn abort<M: Manager, G: Gate, R: Wait + Clock>(rt: &R, work: &Work<'_, M, G>, txn: TxnId) -> End {
     match work.manager.abort(rt, txn) {
         Ok(_) => End::Aborted,

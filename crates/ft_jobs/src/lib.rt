@@ -8,8 +8,8 @@ mod job_run;
 mod pace;
 mod running;
 
+pub use ft_job_reports::{CallReport, End, Report, are_met};
 pub use ft_plan::{Job, JobFault, JobKind, JobName, LONGEST_PLAN, Plan, Step};
-pub use ft_reports::{CallReport, End, Report, are_met};
 pub use gate::{Gate, OpenGate};
 pub use pace::{Pace, USUAL_THREADS};
-pub use running::{JobsOutcome, report_jobs, run_jobs};
+pub use running::{JobsOutcome, run_jobs, run_jobs_unchecked};

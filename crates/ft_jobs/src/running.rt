@@ -1,15 +1,15 @@
 // All jobs of a plan, side by side.
 ghost use Rattle.std.specs.Prelude.{◌≡◌, ◌≢◌, ◌⊎◌, IfOk, IfErr, IsErrOf};
 ghost use Rattle.ft_core.specs.Living.{NoneIsLive, SomeIsLive};
-ghost use Rattle.ft_reports.specs.Reports.{AreReports};
+ghost use Rattle.ft_job_reports.specs.Reports.{AreReports};
 
 use crate::board::Board;
 use crate::gate::Gate;
 use crate::job_run::{Work, run_in_turn};
 use crate::pace::Pace;
+use ft_job_reports::{Report, are_reports};
 use ft_plan::{JobFault, Plan};
 use ft_record::Recorded;
-use ft_reports::{Report, are_reports};
 use ft_shared::Manager;
 use std::alloc::Global;
 use std::sync::Wait;
@@ -31,16 +31,19 @@ impl JobsOutcome {
     ///
     /// Returns Mismatch if they are not what happened, or a transaction is live. At a fault the
     /// core is dropped. Any other fault is Memory.
-    pub fn compared(
+    pub fn checked(
         alloc: Global,
         plan: &Plan,
         core: Recorded,
         reports: Vec<Report>,
     ) -> Result<JobsOutcome, JobFault>
-        ensures same { IfOk result (λ outcome. (outcome.core ≡ core) × (outcome.reports ≡ reports)) }
-        ensures ok { IfOk result (λ outcome. AreReports outcome.core.state plan.now outcome.reports.items) }
+        ensures same { IfOk result
+            (λ outcome. (outcome.core ≡ core) × (outcome.reports ≡ reports)) }
+        ensures ok { IfOk result
+            (λ outcome. AreReports outcome.core.state plan.now outcome.reports.items) }
         ensures none_live { IfOk result (λ outcome. NoneIsLive outcome.core.state) }
-        ensures mismatch { IsErrOf result JobFault.Mismatch → SomeIsLive core.state ⊎ ¬ AreReports core.state plan.now reports.items }
+        ensures mismatch { IsErrOf result JobFault.Mismatch
+            → SomeIsLive core.state ⊎ ¬ AreReports core.state plan.now reports.items }
         ensures cause { IfErr result (λ fault. fault ≢ JobFault.BadPlan) }
     {
         if core.has_live() || !are_reports(alloc, plan, &core, reports.as_slice())? {
@@ -67,14 +70,15 @@ pub fn run_jobs<M: Manager, G: Gate, R: Threads + Wait + Clock + Sync>(
     gate: &G,
     pace: Pace,
 ) -> Result<JobsOutcome, JobFault>
-    ensures ok { IfOk result (λ outcome. AreReports outcome.core.state plan.now outcome.reports.items) }
+    ensures ok { IfOk result
+        (λ outcome. AreReports outcome.core.state plan.now outcome.reports.items) }
     ensures core { IfOk result (λ outcome. M.hands_back outcome.core.state) }
     ensures none_live { IfOk result (λ outcome. NoneIsLive outcome.core.state) }
     ensures cause { IfErr result (λ fault. fault ≢ JobFault.BadPlan) }
 {
-    let run = report_jobs(rt, alloc, plan, &manager, gate, pace);
+    let run = run_jobs_unchecked(rt, alloc, plan, &manager, gate, pace);
     let core = manager.into_core(rt);
-    JobsOutcome::compared(alloc, plan, core, run?)
+    JobsOutcome::checked(alloc, plan, core, run?)
 }
 
 /// Runs the jobs of a plan as `run_jobs` does, and returns what they report, which is compared with
@@ -82,7 +86,7 @@ pub fn run_jobs<M: Manager, G: Gate, R: Threads + Wait + Clock + Sync>(
 ///
 /// Returns Thread if a thread could not be started, after those that were have ended. Any other
 /// fault is Memory.
-pub fn report_jobs<M: Manager, G: Gate, R: Threads + Wait + Clock + Sync>(
+pub fn run_jobs_unchecked<M: Manager, G: Gate, R: Threads + Wait + Clock + Sync>(
     rt: &R,
     alloc: Global,
     plan: &Plan,
@@ -108,8 +112,8 @@ pub fn report_jobs<M: Manager, G: Gate, R: Threads + Wait + Clock + Sync>(
     Ok(board.into_reports())
 }
 
-// Starts a thread for each job, but at most so many, and waits until all have ended. Returns
-// whether all could be started: after one that could not, no other is.
+/// Starts a thread for each job, but at most this many, and waits until all have ended. Returns
+/// whether all could be started. After a thread that could not be started, no other is started.
 fn start_all<M: Manager, G: Gate, R: Threads + Wait + Clock + Sync>(
     rt: &R,
     work: &Work<'_, M, G>,

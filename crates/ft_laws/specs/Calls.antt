@@ -1,6 +1,6 @@
--- Calls in the abstract: a store is seen cell by cell, and a call reads some cells and writes
--- some. (A rule of this project. A cell is what Moss, Nested Transactions, MIT 1981, calls an
--- object: what is locked, read and written.)
+-- Calls in the abstract: a store is seen cell by cell, and a call reads some cells and writes some.
+-- (A rule of this project. Moss, Nested Transactions, MIT 1981, calls a cell an object: it is
+-- locked, read and written.)
 use Rattle.std.specs.Prelude.{◌≡◌, ℕ, Bool, true, cond, Option}
 
 -- A store, its cells, and the calls on it.
@@ -14,11 +14,11 @@ pub record Calls : Type 1 where
   pub Reply : Type 0
   -- which cells a call reads and which it writes
   pub Accesses : Type 0
-  -- what puts back the cells that a call wrote
+  -- undoes a call: it puts back the cells that the call wrote
   pub Inverse : Type 0
   pub File : Type 0
   pub cell : Store → (x : Cell) → Value x
-  -- the number that is the call's alone
+  -- a number that no other call has
   pub stamp : Call → ℕ
   -- what the call does in a store: the store after it, its reply, its accesses, and its inverse
   pub act : Store → Call → Store
@@ -26,27 +26,27 @@ pub record Calls : Type 1 where
   pub accesses : Store → Call → Accesses
   pub inverse : Store → Call → Inverse
   pub revert : Store → Inverse → Store
-  -- what putting the inverse to the store asks of the store, as code does
-  -- that overwrites bytes in place
+  -- what the store must meet for the inverse to be put to it, as code requires that overwrites
+  -- bytes in place
   pub MayRevert : Store → Inverse → Type 0
-  -- the cell is read or written, and the cell is written
+  -- the cell is read or written; the cell is written
   pub touches : Accesses → Cell → Bool
   pub changes : Accesses → Cell → Bool
   -- both access something in common that one of them writes (Moss 1981, the locking rules: read
-  -- locks go together, a write lock goes with no other)
+  -- locks are compatible with each other, a write lock with no other)
   pub conflict : Accesses → Accesses → Bool
-  -- what is true of a store at all times (for a file tree POSIX.1-2017, section 3, File Hierarchy)
+  -- holds of a store at all times (for a file tree POSIX.1-2017, section 3, File Hierarchy)
   pub IsSound : Store → Type 0
-  -- the call may be made in the store: what it makes takes its stamp for a number, and nothing
+  -- the call may be made in the store: the stamp numbers whatever the call makes, and nothing
   -- stored has that number (a rule of this project)
   pub IsReady : Call → Store → Type 0
-  -- the file to which the cell belongs, as its bytes and its count of links do; an entry or
-  -- a descriptor belongs to none
+  -- the file to which the cell belongs, as the bytes and the count of links of a file do; an entry
+  -- or a descriptor belongs to none
   pub file_of : Cell → Option File
   -- a value names a file, as an entry or a descriptor does (POSIX.1-2017, section 3, Directory
   -- Entry and Open File Description)
   pub names : (x : Cell) → Value x → File → Bool
-  -- what a cell holds where nothing is stored
+  -- what a cell holds if nothing is stored
   pub blank : (x : Cell) → Value x
   -- the file that the call makes, if it makes one
   pub own : Call → File
@@ -68,15 +68,15 @@ module _ (C : Calls) where
   abbrev pub IsAsLeft : C.Accesses → C.Store → C.Store → Type 0
   IsAsLeft f s t = (x : C.Cell) → C.changes f x ≡ true → C.cell t x ≡ C.cell s x
 
-  -- The inverse u of the call a, made in s with the accesses f: to each store whose cells that a
-  -- writes are as a left them, u may be put; it gives these cells their values from before a,
-  -- and changes no other. (Moss 1981, state restoration: what an aborted transaction wrote gets
-  -- back its version from before.)
+  -- The inverse u of the call a, made in s with the accesses f: u may be put to each store whose
+  -- cells that a writes are as a left them. It gives these cells their values from before a, and
+  -- changes no other. (Moss 1981, state restoration: an object that an aborted transaction wrote
+  -- gets back its earlier version.)
   abbrev pub Reverts : C.Store → C.Call → C.Accesses → C.Inverse → Type 0
   Reverts s a f u = (t : C.Store) → IsAsLeft f (C.act s a) t → C.MayRevert t u × PutBack f s t (C.revert t u)
 
-  -- What is kept of a call that was granted. (A rule of this project: its inverse isn't, so that
-  -- what happened is told without it.)
+  -- The record of a call that was granted. (A rule of this project: its inverse is not kept, so
+  -- that what happened can be described without it.)
   pub record Done : Type 0 where
     -- the number of the transaction that asked for it
     pub asker : ℕ
@@ -84,11 +84,11 @@ module _ (C : Calls) where
     pub accesses : C.Accesses
     pub reply : C.Reply
 
-  -- Made in s, the call does what is kept of it.
+  -- The call, made in s, has the accesses and the reply that are kept of it.
   pub record Fits (s : C.Store) (c : Done) : Type 0 where
     pub accesses : C.accesses s c.call ≡ c.accesses
     pub reply : C.reply s c.call ≡ c.reply
 
-  -- What is kept of the call a, made in s for t.
+  -- the record of the call a, made in s for the transaction t
   abbrev pub made : C.Store → ℕ → C.Call → Done
   made s t a = record { asker = t; call = a; accesses = C.accesses s a; reply = C.reply s a }

@@ -1,12 +1,12 @@
--- Calls that tell, in a store, what they access, what they write and what they reply. The laws of
--- calls follow from fewer laws of these. (A rule of this project.)
+-- Calls that are given by their effects: what they access, write and reply in a store. The laws of
+-- calls follow from fewer laws of these effects. (A rule of this project.)
 use Rattle.std.specs.Prelude.{◌≡◌, ◌≢◌, ℕ, Bool, true, false, ◌||◌, ◌&&◌, Option, Some, List, [], ◌∷◌, map, ◌⊎◌}
 use Rattle.ft_laws.specs.Lists.{Each, any}
 use Rattle.ft_laws.specs.Calls.{Calls}
 use Rattle.ft_laws.specs.Laws.{Knows, TouchesFile, LeavesName, Hides}
 
--- a place, which may cover several cells, as the names of a directory cover its
--- entries; and whether it is written
+-- a place, and whether it is written; a place may cover several cells, as the names of a directory
+-- cover its entries
 pub record Access (Place : Type 0) : Type 0 where
   pub place : Place
   pub writes : Bool
@@ -16,7 +16,7 @@ pub record Write (Cell : Type 0) (Value : Cell → Type 0) : Type 0 where
   pub cell : Cell
   pub value : Value cell
 
--- what takes writes back: the written cells with their values from before and from after
+-- undoes writes: the written cells with their values from before and from after
 pub record Reversal (Cell : Type 0) (Value : Cell → Type 0) : Type 0 where
   pub before : List (Write Cell Value)
   pub after : List (Write Cell Value)
@@ -39,7 +39,7 @@ pub record Effects : Type 1 where
   pub cell : Store → (x : Cell) → Value x
   -- the store with one cell set
   pub write : Store → (x : Cell) → Value x → Store
-  -- the two cells are one; the place covers the cell; the two places have something in common
+  -- the two cells are the same; the place covers the cell; the two places have something in common
   pub same_cell : Cell → Cell → Bool
   pub covers : Place → Cell → Bool
   pub overlap : Place → Place → Bool
@@ -58,7 +58,7 @@ module _ (E : Effects) where
   abbrev pub is_written : List (Write E.Cell E.Value) → E.Cell → Bool
   is_written ws x = any (λ w. E.same_cell w.cell x) ws
 
-  -- the store after the writes, the last one last
+  -- the store after the writes, in their order
   abbrev pub write_all : E.Store → List (Write E.Cell E.Value) → E.Store
   write_all s [] = s
   write_all s (w ∷ ws) = write_all (E.write s w.cell w.value) ws
@@ -71,7 +71,7 @@ module _ (E : Effects) where
   abbrev pub Has : E.Store → List (Write E.Cell E.Value) → Type 0
   Has s ws = Each (λ w. E.cell s w.cell ≡ w.value) ws
 
-  -- what takes the writes back that are made in s
+  -- the reversal of the writes, made in s
   abbrev pub reversal_of : E.Store → List (Write E.Cell E.Value) → Reversal E.Cell E.Value
   reversal_of s ws = record { before = before s ws; after = before (write_all s ws) ws }
 
@@ -79,21 +79,20 @@ module _ (E : Effects) where
   abbrev pub touch : List (Access E.Place) → E.Cell → Bool
   touch f x = any (λ a. E.covers a.place x) f
 
-  -- those that write cover it
+  -- the accesses that write cover the cell
   abbrev pub change : List (Access E.Place) → E.Cell → Bool
   change f x = any (λ a. a.writes && E.covers a.place x) f
 
-  -- Two accesses conflict where they overlap and one of them writes
-  -- (Moss 1981, the locking rules).
+  -- Two accesses conflict if they overlap and one of them writes (Moss 1981, the locking rules).
   abbrev pub conflict : Access E.Place → Access E.Place → Bool
   conflict a b = E.overlap a.place b.place && (a.writes || b.writes)
 
-  -- some access here conflicts with some access there
+  -- an access of the first list conflicts with an access of the second
   abbrev pub some_conflict : List (Access E.Place) → List (Access E.Place) → Bool
   some_conflict f g = any (λ a. any (conflict a) g) f
 
-  -- The calls: what is written is set, and the inverse sets what was there before, in a store
-  -- that has what the call left.
+  -- The calls: each written cell is set. The inverse sets the values from before, in a store that
+  -- has what the call left.
   abbrev pub calls_of : Calls
   calls_of = record {
     Store = E.Store;
@@ -129,15 +128,15 @@ module _ (E : Effects) where
     pub cell_written : (s : E.Store) (x : E.Cell) (v : E.Value x) → E.cell (E.write s x v) x ≡ v
     pub cell_kept : (s : E.Store) (x : E.Cell) (v : E.Value x) (y : E.Cell) → E.same_cell x y ≡ false → E.cell (E.write s x v) y ≡ E.cell s y
 
-  -- What is left to prove of the kinds of call, among stores that stand so to each other.
+  -- The laws left to prove for each kind of call, among stores that are akin.
   pub record EffectLaws (Akin : E.Store → E.Store → Type 0) : Type 0 where
     pub sets : SetsCells
     -- Places that cover a cell in common overlap, and overlapping is symmetric.
     pub overlaps : (p q : E.Place) (x : E.Cell) → E.covers p x ≡ true → E.covers q x ≡ true → E.overlap p q ≡ true
     pub overlap_sym : (p q : E.Place) → E.overlap p q ≡ E.overlap q p
-    -- The accesses that write tell what is written.
+    -- The accesses that write cover exactly the cells that are written.
     pub told : (s : E.Store) (a : E.Call) (x : E.Cell) → change (E.does s a).accesses x ≡ is_written (E.does s a).writes x
-    -- The effect depends on the cells that it touches alone.
+    -- The effect depends only on the cells that the call touches.
     pub local : (s t : E.Store) (a : E.Call) → E.IsSound s → E.IsSound t → E.IsReady a s → E.IsReady a t → Akin s t
         → ((x : E.Cell) → touch (E.does s a).accesses x ≡ true → E.cell s x ≡ E.cell t x) → E.does t a ≡ E.does s a
     pub stays_sound : (s : E.Store) (a : E.Call) → E.IsSound s → E.IsReady a s → E.IsSound (write_all s (E.does s a).writes)

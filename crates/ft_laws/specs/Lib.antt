@@ -1,3 +1,4 @@
+-- What callers cite.
 pub mod Lists
 pub mod Calls
 pub mod Laws
@@ -5,7 +6,8 @@ pub mod Runs
 pub mod Effects
 pub mod Settled
 pub mod Hiding
-pub mod Looks
 pub mod Tiny
 pub mod Without
 pub mod Tidying
+-- What the crate keeps true of itself.
+pub mod Looks

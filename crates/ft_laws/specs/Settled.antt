@@ -1,11 +1,11 @@
 -- Calls on a store with a setting that none of them changes, as a file system has limits. The
--- setting counts as a cell of its own, which each call reads and none writes: so what is proved
--- of stores by their cells is proved of stores with settings. (A rule of this project.)
+-- setting counts as a cell of its own, which each call reads and none writes. Theorems on stores by
+-- their cells therefore hold of stores with settings. (A rule of this project.)
 use Rattle.std.specs.Prelude.{◌≡◌, Bool, true, false, Option, Some, None}
 use Rattle.ft_laws.specs.Calls.{Calls}
 
 module _ (C : Calls) (Setting : Type 0) (setting : C.Store → Setting) (first : Setting) where
-  -- what a cell may hold; that of the setting is `None`
+  -- the values that a cell may hold; `None` is the cell of the setting
   abbrev pub Value : Option C.Cell → Type 0
   Value None = Setting
   Value (Some x) = C.Value x
@@ -20,27 +20,27 @@ module _ (C : Calls) (Setting : Type 0) (setting : C.Store → Setting) (first :
   touches f None = true
   touches f (Some x) = C.touches f x
 
-  -- and none writes it
+  -- no call writes the setting
   abbrev pub changes : C.Accesses → Option C.Cell → Bool
   changes f None = false
   changes f (Some x) = C.changes f x
 
-  -- it belongs to no file
+  -- the setting belongs to no file
   abbrev pub file_of : Option C.Cell → Option C.File
   file_of None = None
   file_of (Some x) = C.file_of x
 
-  -- and names none
+  -- the setting names no file
   abbrev pub names : (x : Option C.Cell) → Value x → C.File → Bool
   names None v i = false
   names (Some x) v i = C.names x v i
 
-  -- where nothing is stored the setting is the first one
+  -- if nothing is stored, the setting is the first one
   abbrev pub blank : (x : Option C.Cell) → Value x
   blank None = first
   blank (Some x) = C.blank x
 
-  -- the calls, where the setting is a cell among the others
+  -- the calls, with the setting as a cell among the others
   abbrev pub settled : Calls
   settled = record {
     Store = C.Store;

@@ -1,4 +1,4 @@
--- Tidying: a file that nothing names any more is dead, and what is stored of it may go
+-- Tidying: a file that nothing names any more is dead, and what is stored of it may be removed
 -- (POSIX.1-2017, close and unlink: the space is freed and the file is no longer accessible).
 use Rattle.std.specs.Prelude.{◌≡◌, ◌≢◌, Bool, true, false, Some, List, [], ◌∷◌, ◌⊎◌}
 use Rattle.ft_laws.specs.Calls.{Calls, Same, Done, Fits}
@@ -18,8 +18,8 @@ module _ (C : Calls) where
   abbrev pub IsNamed : C.Store → C.File → Type 0
   IsNamed s i = (x : C.Cell) × (C.names x (C.cell s x) i ≡ true)
 
-  -- The dead files of a sound store are those that are stored and that nothing names,
-  -- and tidying takes them away.
+  -- The dead files of a sound store are those that are stored and that nothing names. Tidying
+  -- removes them.
   pub record IsTidying (tidy : C.Store → C.Store) (dead : C.Store → C.File → Bool) : Type 0 where
     pub hides : (s : C.Store) → C.IsSound s → Hides C (dead s) s (tidy s)
     pub stored : (s : C.Store) (i : C.File) → C.IsSound s → dead s i ≡ true → IsStored s i
@@ -31,13 +31,14 @@ module _ (C : Calls) where
     tidied s [] = s
     tidied s (c ∷ cs) = tidied (tidy (C.act s c.call)) cs
 
-    -- Each call does in its turn what is kept of it, where the store is tidied after each.
+    -- Each call, made in its turn, has the accesses and the reply that are kept of it, if the store
+    -- is tidied after each.
     abbrev pub TidiedFaithful : C.Store → List (Done C) → Type 0
     TidiedFaithful s [] = Unit {0}
     TidiedFaithful s (c ∷ cs) = Fits C s c × TidiedFaithful (tidy (C.act s c.call)) cs
 
-  -- The tidying law: tidying after each call, or once at the end, gives the
-  -- same store and the same replies.
+  -- The tidying law: tidying after each call, or once at the end, gives the same store and the same
+  -- replies.
   abbrev pub TidyingLaw : Type 0
   TidyingLaw = (tidy : C.Store → C.Store) (dead : C.Store → C.File → Bool) → IsTidying tidy dead → (s : C.Store) (cs : List (Done C)) → Able C s cs → Faithful C s cs
       → TidiedFaithful tidy s cs × Same C (tidy (run C s cs)) (tidy (tidied tidy s cs))

@@ -1,7 +1,7 @@
--- A tiny tree that meets every law: directories and files by number, names 0 to 2, paths of at
--- most two names. A file has one name, and a rename moves it. (The calls are those of
--- POSIX.1-2017 by these names, Create being open with O_CREAT and O_EXCL and Fill a write of the
--- whole file, cut down to this tree.)
+-- A tiny tree that meets every law: directories and files by number, names 0 to 2, and paths of at
+-- most two names. A file has one name, and a rename moves it. (The calls are those of POSIX.1-2017
+-- by these names, cut down to this tree. Create is open with O_CREAT and O_EXCL, and Fill is a
+-- write of the whole file.)
 use Rattle.std.specs.Prelude.{◌≡◌, ◌≢◌, ◌<◌, ℕ, Bool, true, false, cond, ◌||◌, ◌&&◌, ◌==◌, not, Option, Some, None, is_some, List, [], ◌∷◌, ◌++◌, ◌⊎◌, map}
 use Rattle.ft_laws.specs.Calls.{Calls}
 use Rattle.ft_laws.specs.Effects.{Access, Write, Effect, Effects, calls_of}
@@ -20,8 +20,8 @@ pub data Cell : Type 0 where
   Links : ℕ → Cell
   Bytes : ℕ → Cell
 
--- what a cell holds: an entry its node, a directory's Parent the directory of its entry, a file's
--- Links the count of its names, its Bytes one number
+-- what a cell holds: an entry has its node, a directory's Parent the directory of its entry, a
+-- file's Links the count of its names, and a file's Bytes one number
 abbrev pub Shows : Cell → Type 0
 Shows (Entry d n) = Option Node
 Shows (Parent d) = Option ℕ
@@ -37,12 +37,12 @@ pub data Place : Type 0 where
   One : Cell → Place
   Names : ℕ → Place
 
--- of the names of a directory it is seen whether there are none
+-- a cell shows its value, and the names of a directory show whether there are none
 abbrev pub Shown : Place → Type 0
 Shown (One x) = Shows x
 Shown (Names d) = Bool
 
--- none of the three names stands in the directory
+-- the directory has none of the three names
 abbrev pub is_empty : Store → ℕ → Bool
 is_empty s d = not (is_some (s (Entry d 0)) || is_some (s (Entry d 1)) || is_some (s (Entry d 2)))
 
@@ -51,7 +51,7 @@ abbrev pub view : Store → (p : Place) → Shown p
 view s (One x) = s x
 view s (Names d) = is_empty s d
 
--- the two cells are one
+-- the two cells are the same
 abbrev pub same_cell : Cell → Cell → Bool
 same_cell (Entry d n) (Entry e m) = (d == e) && (n == m)
 same_cell (Parent i) (Parent j) = i == j
@@ -84,7 +84,8 @@ write s (Links i) v (Links j) = cond (i == j) v (s (Links j))
 write s (Bytes i) v (Bytes j) = cond (i == j) v (s (Bytes j))
 write s x v y = s y
 
--- The calls, each with the directory of its path, the root or one named there, and a name in it.
+-- The calls. Each has the directory of its path, which is the root or a directory named there, and
+-- a name in it.
 pub data What : Type 0 where
   Mkdir : Option ℕ → ℕ → What
   Rmdir : Option ℕ → ℕ → What
@@ -92,16 +93,16 @@ pub data What : Type 0 where
   Unlink : Option ℕ → ℕ → What
   -- within one directory, from the first name to the second
   Rename : Option ℕ → ℕ → ℕ → What
-  -- what the file is to hold
+  -- the last number is what the file is to hold
   Fill : Option ℕ → ℕ → ℕ → What
   Stat : Option ℕ → ℕ → What
 
--- a call with its stamp, which is the number of what it makes
+-- a call with its stamp, which numbers what the call makes
 pub record Call : Type 0 where
   pub stamp : ℕ
   pub what : What
 
--- the replies, those of failed calls by their errno
+-- the replies; the reply of a failed call is its errno
 pub data Reply : Type 0 where
   Success : Reply
   DirectoryInfo : ℕ → Reply
@@ -117,11 +118,11 @@ pub record Outcome : Type 0 where
   pub writes : List (Write Cell Shows)
   pub reply : Reply
 
--- a call by its looks
+-- a call, given by its looks
 abbrev pub Steps : Type 0
 Steps = Looks Place Shown Outcome
 
--- it writes nothing, and replies this
+-- the call writes nothing and has this reply
 abbrev pub replies : Reply → Steps
 replies r = Answer (record { writes = []; reply = r })
 
@@ -129,38 +130,38 @@ replies r = Answer (record { writes = []; reply = r })
 abbrev pub set : (x : Cell) → Shows x → Write Cell Shows
 set x v = record { cell = x; value = v }
 
--- it writes this, and succeeds
+-- the call makes these writes and succeeds
 abbrev pub writes : List (Write Cell Shows) → Steps
 writes ws = Answer (record { writes = ws; reply = Success })
 
--- The walk to the directory of a path (POSIX.1-2017, 4.13 Pathname Resolution), and what is done
--- there: an entry has to lead to a directory.
+-- The walk to the directory of a path (POSIX.1-2017, 4.13 Pathname Resolution). The call continues
+-- there if the entry leads to a directory.
 abbrev pub enter : (ℕ → Steps) → Option Node → Steps
 enter go None = replies NoEntry
 enter go (Some (FileNode i)) = replies NotDirectory
 enter go (Some (DirNode d)) = go d
 
--- in the root, or in the directory of this name there
+-- the call continues in the root, or in the directory of this name there
 abbrev pub inside : Option ℕ → (ℕ → Steps) → Steps
 inside None go = go 1
 inside (Some q) go = Look (One (Entry 1 q)) (enter go)
 
--- a name that is free gets a directory (mkdir)
+-- a free name gets a directory (mkdir)
 abbrev pub mkdir_at : ℕ → ℕ → ℕ → Option Node → Steps
 mkdir_at k d n None = writes (set (Entry d n) (Some (DirNode k)) ∷ set (Parent k) (Some d) ∷ [])
 mkdir_at k d n (Some x) = replies Exists
 
--- a name that is free gets a file (open with O_CREAT and O_EXCL)
+-- a free name gets a file (open with O_CREAT and O_EXCL)
 abbrev pub create_at : ℕ → ℕ → ℕ → Option Node → Steps
 create_at k d n None = writes (set (Entry d n) (Some (FileNode k)) ∷ set (Links k) (Some 1) ∷ set (Bytes k) (Some 0) ∷ [])
 create_at k d n (Some x) = replies Exists
 
--- a directory goes where it is empty (rmdir)
+-- a directory is removed if it is empty (rmdir)
 abbrev pub rmdir_if : ℕ → ℕ → ℕ → Bool → Steps
 rmdir_if d n i true = writes (set (Entry d n) None ∷ set (Parent i) None ∷ [])
 rmdir_if d n i false = replies NotEmpty
 
--- an entry has to lead to a directory, which is looked at
+-- the entry must lead to a directory, whose names are then looked at
 abbrev pub rmdir_at : ℕ → ℕ → Option Node → Steps
 rmdir_at d n None = replies NoEntry
 rmdir_at d n (Some (FileNode i)) = replies NotDirectory
@@ -178,7 +179,7 @@ abbrev pub rename_to : ℕ → ℕ → ℕ → ℕ → Option Node → Steps
 rename_to d n m i None = writes (set (Entry d n) None ∷ set (Entry d m) (Some (FileNode i)) ∷ [])
 rename_to d n m i (Some x) = replies Exists
 
--- an entry has to lead to a file, and then the new name is looked at
+-- the entry must lead to a file, and then the new name is looked at
 abbrev pub rename_at : ℕ → ℕ → ℕ → Option Node → Steps
 rename_at d n m None = replies NoEntry
 rename_at d n m (Some (DirNode i)) = replies IsDirectory
@@ -190,7 +191,7 @@ fill_at v None = replies NoEntry
 fill_at v (Some (DirNode i)) = replies IsDirectory
 fill_at v (Some (FileNode i)) = writes (set (Bytes i) (Some v) ∷ [])
 
--- what is there is told (stat)
+-- the reply reports what is there (stat)
 abbrev pub stat_at : Option Node → Steps
 stat_at None = replies NoEntry
 stat_at (Some (DirNode i)) = replies (DirectoryInfo i)
@@ -210,11 +211,11 @@ steps k (Stat p n) = inside p (λ d. Look (One (Entry d n)) stat_at)
 abbrev pub reads : Place → Access Place
 reads p = record { place = p; writes = false }
 
--- what is set is written
+-- the set cell is written
 abbrev pub wrote : Write Cell Shows → Access Place
 wrote w = record { place = One w.cell; writes = true }
 
--- What is written is accessed for writing, and what is looked at for reading.
+-- Each written cell is accessed for writing, and each place that is looked at for reading.
 abbrev pub effect_of : Steps → Store → Effect Place Cell Shows Reply
 effect_of t s = let end = follow Place Shown Outcome t (view s) [] in record {
   accesses = map wrote end.answer.writes ++ map reads end.seen;
@@ -226,7 +227,7 @@ effect_of t s = let end = follow Place Shown Outcome t (view s) [] in record {
 abbrev pub does : Store → Call → Effect Place Cell Shows Reply
 does s a = effect_of (steps a.stamp a.what) s
 
--- the directory is the root, or has an entry
+-- the directory is the root, or has a parent
 abbrev pub IsThere : Store → ℕ → Type 0
 IsThere s d = (d ≡ 1) ⊎ (is_some (s (Parent d)) ≡ true)
 
@@ -236,14 +237,14 @@ HasEntry s i = (d : ℕ) × (n : ℕ) × (s (Entry d n) ≡ Some (FileNode i))
 
 -- A sound tree (POSIX.1-2017, section 3, Directory, Link Count and Root Directory).
 pub record IsSound (s : Store) : Type 0 where
-  -- an entry stands in a directory that is there, under a small name
+  -- an entry is in a directory that is there, and its name is small
   pub in_dir : (d n : ℕ) (x : Node) → s (Entry d n) ≡ Some x → IsThere s d
   pub small : (d n : ℕ) (x : Node) → s (Entry d n) ≡ Some x → n < 3
-  -- what an entry names is there, and nothing has two entries
+  -- whatever an entry names is there, and nothing has two entries
   pub dir_there : (d n i : ℕ) → s (Entry d n) ≡ Some (DirNode i) → s (Parent i) ≡ Some d
   pub file_there : (d n i : ℕ) → s (Entry d n) ≡ Some (FileNode i) → s (Links i) ≡ Some 1
   pub one_entry : (d n e m : ℕ) (x : Node) → s (Entry d n) ≡ Some x → s (Entry e m) ≡ Some x → (d ≡ e) × (n ≡ m)
-  -- a file to which no entry leads has no links, and what has no Links has no Bytes
+  -- a file to which no entry leads has no links, and a file without Links has no Bytes
   pub counted : (i l : ℕ) → s (Links i) ≡ Some l → (l ≡ 0) ⊎ HasEntry s i
   pub with_links : (i : ℕ) → s (Links i) ≡ None → s (Bytes i) ≡ None
   -- the root has no entry
@@ -269,7 +270,7 @@ pub record IsReady (a : Call) (s : Store) : Type 0 where
   pub no_links : s (Links a.stamp) ≡ None
   pub no_bytes : s (Bytes a.stamp) ≡ None
 
--- Links and Bytes are cells of their file, an entry that leads to a file names it.
+-- the file of a cell: Links and Bytes are cells of their file, and other cells belong to none
 abbrev pub file_of : Cell → Option ℕ
 file_of (Links i) = Some i
 file_of (Bytes i) = Some i
@@ -287,18 +288,18 @@ names (Parent d) v i = false
 names (Links j) v i = false
 names (Bytes j) v i = false
 
--- nothing is stored
+-- each cell as it is if nothing is stored
 abbrev pub blank : (x : Cell) → Shows x
 blank (Entry d n) = None
 blank (Parent d) = None
 blank (Links i) = None
 blank (Bytes i) = None
 
--- The tree of the root alone.
+-- The tree that has only the root.
 abbrev pub empty : Store
 empty = blank
 
--- the calls by their effects; what a call makes is numbered by its stamp
+-- the calls, given by their effects; the stamp numbers what a call makes
 abbrev pub tiny : Effects
 tiny = record {
   Store = Store;
@@ -327,7 +328,7 @@ tiny = record {
 abbrev pub tiny_calls : Calls
 tiny_calls = calls_of tiny
 
--- the number is there, and is 0
+-- the number is there and is 0
 abbrev pub is_zero : Option ℕ → Bool
 is_zero None = false
 is_zero (Some l) = l == 0
@@ -336,7 +337,7 @@ is_zero (Some l) = l == 0
 abbrev pub is_dead : Store → ℕ → Bool
 is_dead s i = is_zero (s (Links i))
 
--- the cells of dead files are taken away
+-- the store without the cells of dead files
 abbrev pub tidy : Store → Store
 tidy s (Entry d n) = s (Entry d n)
 tidy s (Parent d) = s (Parent d)

@@ -6,11 +6,11 @@ use Rattle.std.specs.Option.{option_to_list}
 use Rattle.ft_script.specs.Runs.{WritesPart}
 use Rattle.ft_script.proofs.Running.{appends_more, appends_none, keeps_refl}
 use Rattle.std.specs.List.{flat_map}
-use Rattle.ft_copy.specs.declared.trouble.Stopped.{Stopped}
+use Rattle.ft_copy.specs.declared.copy_fault.CopyStop.{CopyStop}
 use Rattle.ft_cells.specs.declared.attributes.Attributes.{Attributes}
 use Rattle.ft_cells.specs.declared.attributes.Timestamp.{Timestamp}
-use Rattle.ft_copy.specs.declared.trouble.Trouble.{Trouble}
-use Rattle.ft_copy.specs.declared.trouble.Trouble.TheVariants.{Memory, BadName, Full}
+use Rattle.ft_copy.specs.declared.copy_fault.CopyFault.{CopyFault}
+use Rattle.ft_copy.specs.declared.copy_fault.CopyFault.TheVariants.{Memory, BadName, Full}
 use Rattle.ft_copy.specs.Asked.{Asked, Start, Close, Finish, GiveUp, DoesAll}
 use Rattle.ft_copy.specs.Kept.{kept_attributes}
 use Rattle.ft_copy.specs.Told.{Told}
@@ -37,7 +37,7 @@ appended_still a b c text h k = subst (Appends a c) (append-nil text) (appends_m
 part_still : (a b c : Option (List ℕ)) (text : List ℕ) → WritesPart a b text → Appends b c [] → WritesPart a c text
 part_still a b c text h k = (h.0, h.1, h.2, h.3, appended_still a b c h.0 h.4 k)
 
-broken_still : (limits : Limits) (trouble : Trouble) (rest : List Asked) (next fd : ℕ) (a b c : Option (List ℕ)) → BreaksOffAt limits trouble rest next fd a b → Appends b c [] → BreaksOffAt limits trouble rest next fd a c
+broken_still : (limits : Limits) (trouble : CopyFault) (rest : List Asked) (next fd : ℕ) (a b c : Option (List ℕ)) → BreaksOffAt limits trouble rest next fd a b → Appends b c [] → BreaksOffAt limits trouble rest next fd a c
 broken_still limits trouble [] next fd a b c h k = h
 broken_still limits trouble (first ∷ more) next fd a b c (inl h) k = inl (h.0, part_still a b c (text_at limits first next fd) h.1 k)
 broken_still limits trouble (first ∷ more) next fd a b c (inr h) k = inr (h.0, h.1, h.2, appended_still a b c (calls_text h.0) h.3 k, h.4)
@@ -83,7 +83,7 @@ module _ (limits : Limits) where
       either (inl same) (inl still) = inl (still ∙ same)
       either (inr within) (inl still) = inr (subst (IsWithinCalls limits) (sym still) within)
 
-  pub fails_one : (trouble : Trouble) (call : Call) (next : ℕ) (a b : Option (List ℕ)) → FailsToAsk limits trouble call next a b → FailsToAskAll limits trouble (call ∷ []) next a b
+  pub fails_one : (trouble : CopyFault) (call : Call) (next : ℕ) (a b : Option (List ℕ)) → FailsToAsk limits trouble call next a b → FailsToAskAll limits trouble (call ∷ []) next a b
   fails_one trouble call next a b (inl h) = inl (h.0, subst (WritesPart a b) (sym (append-nil (call_line call))) h.1)
   fails_one trouble call next a b (inr h) = inr ([], call ∷ [], refl, appends_none a b h.0, either h.1)
     where
@@ -92,12 +92,12 @@ module _ (limits : Limits) where
       either (inr full) = inr (inl full)
 
   -- the first of them failed
-  pub fails_first : (trouble : Trouble) (some others : List Call) (next : ℕ) (a b : Option (List ℕ)) → FailsToAskAll limits trouble some next a b → FailsToAskAll limits trouble (some ++ others) next a b
+  pub fails_first : (trouble : CopyFault) (some others : List Call) (next : ℕ) (a b : Option (List ℕ)) → FailsToAskAll limits trouble some next a b → FailsToAskAll limits trouble (some ++ others) next a b
   fails_first trouble some others next a b (inl h) = inl (h.0, subst (WritesPart a b) (sym (calls_more some others)) (part_before a b (calls_text some) (calls_text others) h.1))
   fails_first trouble some others next a b (inr h) = inr (h.0, h.1 ++ others, ap (λ l. l ++ others) h.2 ∙ append_assoc h.0 h.1 others, h.3, h.4)
 
   -- those behind them failed
-  pub fails_then : (trouble : Trouble) (some others : List Call) (next middle_next : ℕ) (a b c : Option (List ℕ)) → AsksForAll limits some next a middle_next b → FailsToAskAll limits trouble others middle_next b c
+  pub fails_then : (trouble : CopyFault) (some others : List Call) (next middle_next : ℕ) (a b c : Option (List ℕ)) → AsksForAll limits some next a middle_next b → FailsToAskAll limits trouble others middle_next b c
       → FailsToAskAll limits trouble (some ++ others) next a c
   fails_then trouble some others next middle_next a b c h (inl k) =
       inl (k.0, subst (WritesPart a c) (sym (calls_more some others)) (part_behind a b c (calls_text some) (calls_text others) h.0 k.1))
@@ -119,7 +119,7 @@ module _ (limits : Limits) where
       either (inr (inr none)) = absurd none.1
 
   -- the calls of what is asked for failed
-  pub breaks_calls : (trouble : Trouble) (asked : Asked) (next fd : ℕ) (a b : Option (List ℕ)) → text_at limits asked next fd ≡ calls_text (calls_at asked next fd)
+  pub breaks_calls : (trouble : CopyFault) (asked : Asked) (next fd : ℕ) (a b : Option (List ℕ)) → text_at limits asked next fd ≡ calls_text (calls_at asked next fd)
       → FailsToAskAll limits trouble (calls_at asked next fd) next a b → BreaksOff limits trouble asked next fd a b
   breaks_calls trouble asked next fd a b is (inl h) = inl (h.0, subst (WritesPart a b) (sym is) h.1)
   breaks_calls trouble asked next fd a b is (inr h) = inr (h.0, h.1, h.2, h.3, either h.4)
@@ -131,7 +131,7 @@ module _ (limits : Limits) where
       either (inr (inr none)) = absurd none.1
 
   -- nothing was written
-  pub breaks_before : (trouble other : Trouble) (asked : Asked) (next fd : ℕ) (a : Option (List ℕ)) → trouble ≡ other → (other ≡ Memory) ⊎ ((other ≡ BadName) × (has_nul_path asked ≡ true)) → BreaksOff limits trouble asked next fd a a
+  pub breaks_before : (trouble other : CopyFault) (asked : Asked) (next fd : ℕ) (a : Option (List ℕ)) → trouble ≡ other → (other ≡ Memory) ⊎ ((other ≡ BadName) × (has_nul_path asked ≡ true)) → BreaksOff limits trouble asked next fd a a
   breaks_before trouble other asked next fd a is h = inr ([], calls_at asked next fd, refl, appends_none a a (keeps_refl a), either h)
     where
       either : (other ≡ Memory) ⊎ ((other ≡ BadName) × (has_nul_path asked ≡ true)) → (trouble ≡ Memory) ⊎ ((trouble ≡ Full) × IsFull limits next) ⊎ ((trouble ≡ BadName) × (has_nul_path asked ≡ true))
@@ -139,7 +139,7 @@ module _ (limits : Limits) where
       either (inr named) = inr (inr (is ∙ named.0, named.1))
 
   -- the calls of the end failed
-  pub breaks_finish : (trouble : Trouble) (kept : Attributes) (next fd : ℕ) (a b : Option (List ℕ)) → FailsToAskAll limits trouble (calls_at (Finish kept) next fd) next a b → BreaksOff limits trouble (Finish kept) next fd a b
+  pub breaks_finish : (trouble : CopyFault) (kept : Attributes) (next fd : ℕ) (a b : Option (List ℕ)) → FailsToAskAll limits trouble (calls_at (Finish kept) next fd) next a b → BreaksOff limits trouble (Finish kept) next fd a b
   breaks_finish trouble kept next fd a b (inl h) = inl (h.0, part_before a b (calls_text (calls_at (Finish kept) next fd)) commit_line h.1)
   breaks_finish trouble kept next fd a b (inr h) = inr (h.0, h.1, h.2, h.3, either h.4)
     where
@@ -168,12 +168,12 @@ module _ (limits : Limits) (asked : Asked) (next fd : ℕ) (text_is : text_at li
         let all = subst (λ l. AsksForAll limits l next a last c) (sym calls_are) (asks_more limits (wanted ∷ []) (option_to_list wanted_second) next then last a b c one two) in
         (subst (Appends a c) (sym text_is) all.0, all.1 ∙ stamps, fd_is, all.2)
 
-    pub first_breaks : (trouble other : Trouble) (a b : Option (List ℕ)) → trouble ≡ other → FailsToAsk limits other call next a b → BreaksOff limits trouble asked next fd a b
+    pub first_breaks : (trouble other : CopyFault) (a b : Option (List ℕ)) → trouble ≡ other → FailsToAsk limits other call next a b → BreaksOff limits trouble asked next fd a b
     first_breaks trouble other a b is failed =
         let one = fails_one limits trouble wanted next a b (subst (λ t. FailsToAsk limits t wanted next a b) (sym is) (subst (λ k. FailsToAsk limits other k next a b) call_is failed)) in
         breaks_calls limits trouble asked next fd a b text_is (subst (λ l. FailsToAskAll limits trouble l next a b) (sym calls_are) (fails_first limits trouble (wanted ∷ []) (option_to_list wanted_second) next a b one))
 
-    pub second_breaks : (trouble : Trouble) (limits_then : Limits) (then : ℕ) (a b c : Option (List ℕ)) → limits_then ≡ limits → AsksFor limits call next a then b → FailsToAskAll limits_then trouble (option_to_list second) then b c
+    pub second_breaks : (trouble : CopyFault) (limits_then : Limits) (then : ℕ) (a b c : Option (List ℕ)) → limits_then ≡ limits → AsksFor limits call next a then b → FailsToAskAll limits_then trouble (option_to_list second) then b c
         → BreaksOff limits trouble asked next fd a c
     second_breaks trouble limits_then then a b c same first failed =
         let one = asks_one limits wanted next then a b (subst (λ k. AsksFor limits k next a then b) call_is first) in
@@ -190,12 +190,12 @@ module _ (limits : Limits) (time : Option Timestamp) (first : Option Call) (next
       let all = asks_more limits (option_to_list (futime_of fd time)) (calls.Close fd ∷ []) next then last a b c one two in
       (all.0, all.1 ∙ close_stamps time next fd, fd_is, all.2)
 
-  pub time_breaks : (trouble other : Trouble) (a b : Option (List ℕ)) → trouble ≡ other → FailsToAskAll limits other (option_to_list first) next a b → BreaksOff limits trouble (Close time) next fd a b
+  pub time_breaks : (trouble other : CopyFault) (a b : Option (List ℕ)) → trouble ≡ other → FailsToAskAll limits other (option_to_list first) next a b → BreaksOff limits trouble (Close time) next fd a b
   time_breaks trouble other a b is failed =
       let one = subst (λ t. FailsToAskAll limits t (option_to_list (futime_of fd time)) next a b) (sym is) (subst (λ o. FailsToAskAll limits other (option_to_list o) next a b) first_is failed) in
       breaks_calls limits trouble (Close time) next fd a b refl (fails_first limits trouble (option_to_list (futime_of fd time)) (calls.Close fd ∷ []) next a b one)
 
-  pub close_breaks : (trouble : Trouble) (limits_then : Limits) (then : ℕ) (a b c : Option (List ℕ)) → limits_then ≡ limits → AsksForAll limits (option_to_list first) next a then b → FailsToAsk limits_then trouble (calls.Close fd) then b c
+  pub close_breaks : (trouble : CopyFault) (limits_then : Limits) (then : ℕ) (a b c : Option (List ℕ)) → limits_then ≡ limits → AsksForAll limits (option_to_list first) next a then b → FailsToAsk limits_then trouble (calls.Close fd) then b c
       → BreaksOff limits trouble (Close time) next fd a c
   close_breaks trouble limits_then then a b c same timed failed =
       let one = subst (λ o. AsksForAll limits (option_to_list o) next a then b) first_is timed in
@@ -223,19 +223,19 @@ module _ (limits : Limits) (kept : Attributes) (chmod chown : Option Call) (next
       either (inl still) = inl (next_is ∙ still)
       either (inr within) = inr (subst (IsWithinCalls limits) (sym next_is) within)
 
-  pub chmod_breaks : (trouble other : Trouble) (a b : Option (List ℕ)) → trouble ≡ other → FailsToAskAll limits other (option_to_list chmod) next a b → BreaksOff limits trouble (Finish kept) next fd a b
+  pub chmod_breaks : (trouble other : CopyFault) (a b : Option (List ℕ)) → trouble ≡ other → FailsToAskAll limits other (option_to_list chmod) next a b → BreaksOff limits trouble (Finish kept) next fd a b
   chmod_breaks trouble other a b is failed =
       let one = subst (λ t. FailsToAskAll limits t (option_to_list (chmod_of root_path kept)) next a b) (sym is) (subst (λ o. FailsToAskAll limits other (option_to_list o) next a b) chmod_is failed) in
       breaks_finish limits trouble kept next fd a b (fails_first limits trouble (option_to_list (chmod_of root_path kept)) (option_to_list (chown_of root_path kept)) next a b one)
 
-  pub chown_breaks : (trouble other : Trouble) (limits_then : Limits) (then : ℕ) (a b c : Option (List ℕ)) → limits_then ≡ limits → trouble ≡ other → AsksForAll limits (option_to_list chmod) next a then b
+  pub chown_breaks : (trouble other : CopyFault) (limits_then : Limits) (then : ℕ) (a b c : Option (List ℕ)) → limits_then ≡ limits → trouble ≡ other → AsksForAll limits (option_to_list chmod) next a then b
       → FailsToAskAll limits_then other (option_to_list chown) then b c → BreaksOff limits trouble (Finish kept) next fd a c
   chown_breaks trouble other limits_then then a b c same is first failed =
       let two = subst (λ o. FailsToAskAll limits trouble (option_to_list o) then b c) chown_is (subst (λ l. FailsToAskAll l trouble (option_to_list chown) then b c) same (subst (λ t. FailsToAskAll limits_then t (option_to_list chown) then b c) (sym is) failed)) in
       breaks_finish limits trouble kept next fd a c
       (fails_then limits trouble (option_to_list (chmod_of root_path kept)) (option_to_list (chown_of root_path kept)) next then a b c (moded then a b first) two)
 
-  pub commit_breaks : (trouble : Trouble) (limits_then : Limits) (then last : ℕ) (a b c d : Option (List ℕ)) → limits_then ≡ limits → AsksForAll limits (option_to_list chmod) next a then b
+  pub commit_breaks : (trouble : CopyFault) (limits_then : Limits) (then last : ℕ) (a b c d : Option (List ℕ)) → limits_then ≡ limits → AsksForAll limits (option_to_list chmod) next a then b
       → AsksForAll limits_then (option_to_list chown) then b last c → FailsToSay trouble commit_line c d → BreaksOff limits trouble (Finish kept) next fd a d
   commit_breaks trouble limits_then then last a b c d same first second failed =
       inl (failed.0, part_behind a c d (calls_text (calls_at (Finish kept) next fd)) commit_line (both limits_then then last a b c same first second).0 failed.1)
@@ -244,7 +244,7 @@ module _ {T : Type 0} (held : T → Option (List ℕ)) (next fd : T → ℕ) (li
   abbrev pub scripts : T → Asked → T → Type 0
   scripts old asked new = Scripts (limits old) asked (next old) (fd old) (held old) (next new) (fd new) (held new) × (limits new ≡ limits old)
 
-  abbrev pub breaks : T → Asked → Trouble → T → Type 0
+  abbrev pub breaks : T → Asked → CopyFault → T → Type 0
   breaks old asked trouble new = BreaksOff (limits old) trouble asked (next old) (fd old) (held old) (held new)
 
   -- all that was asked for is written
@@ -309,7 +309,7 @@ module _ {T : Type 0} (held : T → Option (List ℕ)) (next fd : T → ℕ) (li
       }
 
   -- what a copy that stops has written
-  pub stops_load : (set_id : Bool) (tells : Told → Type 0) (stopped : Stopped) (old new : T) → next old ≡ 2 → fd old ≡ 0 → StopsCopy (copy_limits (limits old) set_id) tells scripts breaks stopped old new
+  pub stops_load : (set_id : Bool) (tells : Told → Type 0) (stopped : CopyStop) (old new : T) → next old ≡ 2 → fd old ≡ 0 → StopsCopy (copy_limits (limits old) set_id) tells scripts breaks stopped old new
       → StopsLoad (limits old) set_id tells stopped (held old) (held new)
   stops_load set_id tells stopped old new two none h =
       let ended = h.0 in

@@ -1,2 +1,4 @@
-pub mod Scripts
+-- What callers cite.
 pub mod Loads
+-- What the crate keeps true of itself.
+pub mod Scripts

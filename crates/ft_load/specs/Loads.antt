@@ -7,8 +7,8 @@ use Rattle.ft_copy.specs.declared.found.Found.TheVariants as found
 use Rattle.ft_copy.specs.declared.found.FoundFolder.{FoundFolder}
 use Rattle.ft_copy.specs.declared.found.TheConstants.{ROOT}
 use Rattle.ft_copy.specs.declared.limits.CopyLimits.{CopyLimits}
-use Rattle.ft_copy.specs.declared.trouble.Stopped.{Stopped}
-use Rattle.ft_copy.specs.declared.trouble.Trouble.{Trouble}
+use Rattle.ft_copy.specs.declared.copy_fault.CopyStop.{CopyStop}
+use Rattle.ft_copy.specs.declared.copy_fault.CopyFault.{CopyFault}
 use Rattle.ft_copy.specs.Asked.{Asked, Start, Finish}
 use Rattle.ft_copy.specs.Kept.{kept_attributes}
 use Rattle.ft_copy.specs.Told.{Told, Finds}
@@ -47,13 +47,13 @@ pub record Loads (limits : Limits) (set_id : Bool) (tells : Told → Type 0) (he
   pub wrote : Appends held held_after (script_text limits (whole visits links (kept_attributes (copy_limits limits set_id) top.attributes)))
 
 -- The first of what is still to be written is not written whole.
-abbrev pub BreaksOffAt : Limits → Trouble → List Asked → ℕ → ℕ → Option (List ℕ) → Option (List ℕ) → Type 0
+abbrev pub BreaksOffAt : Limits → CopyFault → List Asked → ℕ → ℕ → Option (List ℕ) → Option (List ℕ) → Type 0
 BreaksOffAt limits trouble [] next fd held held_after = ⊥
 BreaksOffAt limits trouble (first ∷ more) next fd held held_after = BreaksOff limits trouble first next fd held held_after
 
 -- A load came so far as the source reported, and no further: a beginning of the script up to there
 -- was written, whole lines and at most a part of the next one.
-pub record StopsLoad (limits : Limits) (set_id : Bool) (tells : Told → Type 0) (stopped : Stopped) (held held_after : Option (List ℕ)) : Type 0 where
+pub record StopsLoad (limits : Limits) (set_id : Bool) (tells : Told → Type 0) (stopped : CopyStop) (held held_after : Option (List ℕ)) : Type 0 where
   pub reached : Reached
   pub told : IsReached (copy_limits limits set_id) tells reached
   pub path : stopped.path ≡ path_at reached

@@ -16,8 +16,8 @@ use Rattle.ft_path.specs.Name.{has_nul}
 use Rattle.ft_core.specs.declared.limits.Limits.{Limits}
 use Rattle.ft_needs.specs.Lines.{needs_text}
 use Rattle.ft_script.specs.Runs.{WritesPart}
-use Rattle.ft_copy.specs.declared.trouble.Trouble.{Trouble}
-use Rattle.ft_copy.specs.declared.trouble.Trouble.TheVariants.{Memory, Write, BadName, Full}
+use Rattle.ft_copy.specs.declared.copy_fault.CopyFault.{CopyFault}
+use Rattle.ft_copy.specs.declared.copy_fault.CopyFault.TheVariants.{Memory, Write, BadName, Full}
 use Rattle.ft_copy.specs.Asked.{Asked, Start, Folder, Open, Piece, Close, Link, Symlink, Finish, GiveUp}
 
 -- a call of transaction 1, on its line
@@ -153,7 +153,7 @@ IsFull limits next = (suc limits.calls < next) ⊎ (2 ^ 64 ≤ suc next)
 
 -- The first of these calls were written, and the next one was not: there was no memory, or there
 -- are as many calls as are granted, or this.
-abbrev pub BreaksOffBetween : Type 0 → Limits → Trouble → List Call → ℕ → Option (List ℕ) → Option (List ℕ) → Type 0
+abbrev pub BreaksOffBetween : Type 0 → Limits → CopyFault → List Call → ℕ → Option (List ℕ) → Option (List ℕ) → Type 0
 BreaksOffBetween cause limits trouble calls next held held_now =
     (done : List Call) × (rest : List Call) × (calls ≡ done ++ rest) × Appends held held_now (calls_text done)
     × ((trouble ≡ Memory) ⊎ ((trouble ≡ Full) × IsFull limits (stamp_behind done next)) ⊎ ((trouble ≡ BadName) × cause))
@@ -161,17 +161,17 @@ BreaksOffBetween cause limits trouble calls next held held_now =
 -- A part of the text was written, and then the writer failed; or the first of its calls were: there
 -- was no memory, or there are as many calls as are granted, or a path, or where a symbolic link
 -- leads, has a null byte.
-abbrev pub BreaksOff : Limits → Trouble → Asked → ℕ → ℕ → Option (List ℕ) → Option (List ℕ) → Type 0
+abbrev pub BreaksOff : Limits → CopyFault → Asked → ℕ → ℕ → Option (List ℕ) → Option (List ℕ) → Type 0
 BreaksOff limits trouble asked next fd held held_now =
     ((trouble ≡ Write) × WritesPart held held_now (text_at limits asked next fd))
     ⊎ BreaksOffBetween (has_nul_path asked ≡ true) limits trouble (calls_at asked next fd) next held held_now
 
 -- A part of a text was written, and then the writer failed.
-abbrev pub FailsToSay : Trouble → List ℕ → Option (List ℕ) → Option (List ℕ) → Type 0
+abbrev pub FailsToSay : CopyFault → List ℕ → Option (List ℕ) → Option (List ℕ) → Type 0
 FailsToSay trouble text held held_after = (trouble ≡ Write) × WritesPart held held_after text
 
 -- The same of a call; or nothing was written of it.
-abbrev pub FailsToAsk : Limits → Trouble → Call → ℕ → Option (List ℕ) → Option (List ℕ) → Type 0
+abbrev pub FailsToAsk : Limits → CopyFault → Call → ℕ → Option (List ℕ) → Option (List ℕ) → Type 0
 FailsToAsk limits trouble call next held held_after =
     FailsToSay trouble (call_line call) held held_after ⊎ (Keeps held held_after × ((trouble ≡ Memory) ⊎ ((trouble ≡ Full) × IsFull limits next)))
 
@@ -181,6 +181,6 @@ AsksForAll limits calls next held next_after held_after =
     Appends held held_after (calls_text calls) × (next_after ≡ stamp_behind calls next) × ((next_after ≡ next) ⊎ IsWithinCalls limits next_after)
 
 -- A part of their text was written, and then the writer failed; or the first of them were.
-abbrev pub FailsToAskAll : Limits → Trouble → List Call → ℕ → Option (List ℕ) → Option (List ℕ) → Type 0
+abbrev pub FailsToAskAll : Limits → CopyFault → List Call → ℕ → Option (List ℕ) → Option (List ℕ) → Type 0
 FailsToAskAll limits trouble calls next held held_after =
     FailsToSay trouble (calls_text calls) held held_after ⊎ BreaksOffBetween ⊥ limits trouble calls next held held_after

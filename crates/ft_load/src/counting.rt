@@ -6,7 +6,7 @@ use crate::script::{has_owners, said_mode};
 use ft_base::Memory;
 use ft_cells::{Attributes, Kind, Timestamp};
 use ft_copy::{
-    CopyLimits, FileId, Found, Leading, Listing, Opened, PIECE, Source, Target, Trouble, copy,
+    CopyFault, CopyLimits, FileId, Found, Leading, Listing, Opened, PIECE, Source, Target, copy,
 };
 use ft_core::Limits;
 use std::alloc::Global;
@@ -27,8 +27,11 @@ pub fn needs_of<S: Source>(
 ) -> Result<Limits, Memory>
     ensures size { IfOk result (λ limits. limits.file_size ≤ most.file_size) }
     ensures calls { IfOk result (λ limits. limits.calls ≤ most.calls) }
-    ensures least { IfOk result (λ limits. (min default_limits.file_size most.file_size ≤ limits.file_size) × (min default_limits.calls most.calls ≤ limits.calls)) }
-    ensures others { IfOk result (λ limits. limits ≡ record most { file_size = limits.file_size; calls = limits.calls }) }
+    ensures least { IfOk result
+        (λ limits. (min default_limits.file_size most.file_size ≤ limits.file_size)
+        × (min default_limits.calls most.calls ≤ limits.calls)) }
+    ensures others { IfOk result
+        (λ limits. limits ≡ record most { file_size = limits.file_size; calls = limits.calls }) }
 {
     let counted = CountedSource {
         source,
@@ -47,7 +50,7 @@ pub fn needs_of<S: Source>(
         set_id,
     };
     if let Err(stopped) = copy(alloc, allowed, &counted, &mut calls) {
-        if stopped.trouble == Trouble::Memory {
+        if stopped.trouble == CopyFault::Memory {
             return Err(Memory);
         }
     }
@@ -63,7 +66,7 @@ pub fn needs_of<S: Source>(
     })
 }
 
-// A source whose files are looked at and not read.
+/// A source whose files are looked at, but not read.
 #[derive(Drop)]
 struct CountedSource<'a, S> {
     source: &'a S,
@@ -78,11 +81,11 @@ struct CountedSource<'a, S> {
 impl<S: Source> Source for CountedSource<'_, S> {
     type File = &'static [u8];
 
-    fn names(&self, path: &[u8], node: u64) -> Result<Listing, Trouble> {
+    fn names(&self, path: &[u8], node: u64) -> Result<Listing, CopyFault> {
         self.source.names(path, node)
     }
 
-    fn look(&self, path: &[u8], node: u64) -> Result<Found, Trouble> {
+    fn look(&self, path: &[u8], node: u64) -> Result<Found, CopyFault> {
         let found = self.source.look(path, node)?;
         if let Found::File(file) = found {
             self.id.set(file.facts.id);
@@ -92,7 +95,7 @@ impl<S: Source> Source for CountedSource<'_, S> {
         Ok(found)
     }
 
-    fn open(&self, _path: &[u8], _node: u64) -> Result<Opened<&'static [u8]>, Trouble> {
+    fn open(&self, _path: &[u8], _node: u64) -> Result<Opened<&'static [u8]>, CopyFault> {
         let pieces = self.size.get().div_ceil(PIECE as u64);
         self.pieces.set(self.pieces.get().saturating_add(pieces));
         Ok(Opened {
@@ -101,59 +104,60 @@ impl<S: Source> Source for CountedSource<'_, S> {
         })
     }
 
-    fn read_link(&self, path: &[u8], node: u64) -> Result<Leading, Trouble> {
+    fn read_link(&self, path: &[u8], node: u64) -> Result<Leading, CopyFault> {
         self.source.read_link(path, node)
     }
 
-    // (what is left out is reported when the script is written)
-    fn omits(&self, _path: &[u8]) -> Result<bool, Trouble> {
+    /// Returns true: what is left out is reported when the script is written.
+    fn omits(&self, _path: &[u8]) -> Result<bool, CopyFault> {
         Ok(true)
     }
 }
 
-// How many calls a script makes besides those that write.
+/// How many calls a script makes besides those that write.
 #[derive(Drop)]
 struct CallCount {
     count: u64,
 }
 
 impl CallCount {
-    fn add(&mut self, calls: u64) -> Result<(), Trouble> {
+    /// Adds calls to the count, which stops at the greatest number.
+    fn add(&mut self, calls: u64) -> Result<(), CopyFault> {
         self.count = self.count.saturating_add(calls);
         Ok(())
     }
 }
 
 impl Target for CallCount {
-    fn start(&mut self) -> Result<(), Trouble> {
+    fn start(&mut self) -> Result<(), CopyFault> {
         Ok(())
     }
 
-    fn folder(&mut self, _path: &[u8], attributes: Attributes) -> Result<(), Trouble> {
+    fn folder(&mut self, _path: &[u8], attributes: Attributes) -> Result<(), CopyFault> {
         self.add(1 + u64::from(has_owners(attributes)))
     }
 
-    fn open(&mut self, _path: &[u8], attributes: Attributes) -> Result<(), Trouble> {
+    fn open(&mut self, _path: &[u8], attributes: Attributes) -> Result<(), CopyFault> {
         self.add(1 + u64::from(has_owners(attributes)))
     }
 
-    fn piece(&mut self, _bytes: &[u8]) -> Result<(), Trouble> {
+    fn piece(&mut self, _bytes: &[u8]) -> Result<(), CopyFault> {
         Ok(())
     }
 
-    fn close(&mut self, time: Option<Timestamp>) -> Result<(), Trouble> {
+    fn close(&mut self, time: Option<Timestamp>) -> Result<(), CopyFault> {
         self.add(1 + u64::from(time.is_some()))
     }
 
-    fn link(&mut self, _first: &[u8], _path: &[u8]) -> Result<(), Trouble> {
+    fn link(&mut self, _first: &[u8], _path: &[u8]) -> Result<(), CopyFault> {
         self.add(1)
     }
 
-    fn symlink(&mut self, _to: &[u8], _path: &[u8]) -> Result<(), Trouble> {
+    fn symlink(&mut self, _to: &[u8], _path: &[u8]) -> Result<(), CopyFault> {
         self.add(1)
     }
 
-    fn finish(&mut self, attributes: Attributes) -> Result<(), Trouble> {
+    fn finish(&mut self, attributes: Attributes) -> Result<(), CopyFault> {
         let mode = said_mode(Kind::Dir, attributes.mode);
         self.add(u64::from(mode.is_some()) + u64::from(has_owners(attributes)))
     }

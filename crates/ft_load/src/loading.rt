@@ -3,7 +3,7 @@ ghost use Rattle.std.specs.Prelude.{IfErr, OnOk};
 ghost use Rattle.ft_load.specs.Loads.{Loads, StopsLoad};
 
 use crate::script::Script;
-use ft_copy::{CopyLimits, Source, Stopped, copy};
+use ft_copy::{CopyLimits, CopyStop, Source, copy};
 use ft_core::Limits;
 use std::alloc::Global;
 use std::io::Write;
@@ -29,9 +29,11 @@ pub fn load<S: Source, W: Write>(
     set_id: bool,
     source: &S,
     writer: W,
-) -> (W, Result<(), Stopped>)
-    ensures ok { OnOk result.1 (Loads limits set_id (S.tells source.now) (W.contents writer) (W.contents result.0)) }
-    ensures stopped { IfErr result.1 (λ stopped. StopsLoad limits set_id (S.tells source.now) stopped (W.contents writer) (W.contents result.0)) }
+) -> (W, Result<(), CopyStop>)
+    ensures ok { OnOk result.1
+        (Loads limits set_id (S.tells source.now) (W.contents writer) (W.contents result.0)) }
+    ensures stopped { IfErr result.1 (λ stopped. StopsLoad limits set_id (S.tells source.now)
+        stopped (W.contents writer) (W.contents result.0)) }
 {
     let mut script = Script {
         alloc,

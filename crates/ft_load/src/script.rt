@@ -5,7 +5,7 @@ ghost use Rattle.std.specs.Option.{option_to_list};
 ghost use Rattle.ft_load.specs.Scripts.{AsksFor, AsksForAll, FailsToAsk, FailsToAskAll, FailsToSay, Says, chmod_of, chown_of, fchown_of, futime_of, has_owners, said_mode};
 
 use ft_cells::{AccessMode, Attributes, Kind, Timestamp};
-use ft_copy::{Target, Trouble};
+use ft_copy::{CopyFault, Target};
 use ft_core::Limits;
 use ft_needs::NeedsLine;
 use ft_path::{FilePath, PathFault};
@@ -15,7 +15,7 @@ use ft_words::CallText;
 use std::alloc::Global;
 use std::io::Write;
 
-// The path of the root.
+/// The path of the root.
 const ROOT_PATH: &[u8] = b"/";
 
 /// A script of one transaction, which is written as its requests come in. It is for a core that is
@@ -34,17 +34,21 @@ pub(crate) struct Script<W> {
 
 impl<W: Write> Script<W> {
     /// Writes a call. More calls than the limits allow are refused.
-    fn ask(&mut self, call: &Call) -> Result<(), Trouble>
-        ensures call { OnOk result (AsksFor self.old.limits call.now self.old.next (W.contents self.old.writer) self.new.next (W.contents self.new.writer)) }
-        ensures err { IfErr result (λ trouble. FailsToAsk self.old.limits trouble call.now self.old.next (W.contents self.old.writer) (W.contents self.new.writer)) }
+    fn ask(&mut self, call: &Call) -> Result<(), CopyFault>
+        ensures call { OnOk result
+            (AsksFor self.old.limits call.now self.old.next (W.contents self.old.writer)
+            self.new.next (W.contents self.new.writer)) }
+        ensures err { IfErr result
+            (λ trouble. FailsToAsk self.old.limits trouble call.now self.old.next
+            (W.contents self.old.writer) (W.contents self.new.writer)) }
         ensures fd { self.new.fd ≡ self.old.fd }
         ensures limits { self.new.limits ≡ self.old.limits }
     {
         let Some(next) = self.next.checked_add(1) else {
-            return Err(Trouble::Full);
+            return Err(CopyFault::Full);
         };
         if next.saturating_sub(2) > self.limits.calls {
-            return Err(Trouble::Full);
+            return Err(CopyFault::Full);
         }
         let line = format!(in self.alloc; "1 {}\n", CallText(call))?;
         self.say(line.as_str())?;
@@ -53,9 +57,13 @@ impl<W: Write> Script<W> {
     }
 
     /// Writes a call, if there is one.
-    fn ask_if(&mut self, call: Option<Call>) -> Result<(), Trouble>
-        ensures call { OnOk result (AsksForAll self.old.limits (option_to_list call) self.old.next (W.contents self.old.writer) self.new.next (W.contents self.new.writer)) }
-        ensures err { IfErr result (λ trouble. FailsToAskAll self.old.limits trouble (option_to_list call) self.old.next (W.contents self.old.writer) (W.contents self.new.writer)) }
+    fn ask_if(&mut self, call: Option<Call>) -> Result<(), CopyFault>
+        ensures call { OnOk result
+            (AsksForAll self.old.limits (option_to_list call) self.old.next
+            (W.contents self.old.writer) self.new.next (W.contents self.new.writer)) }
+        ensures err { IfErr result
+            (λ trouble. FailsToAskAll self.old.limits trouble (option_to_list call) self.old.next
+            (W.contents self.old.writer) (W.contents self.new.writer)) }
         ensures fd { self.new.fd ≡ self.old.fd }
         ensures limits { self.new.limits ≡ self.old.limits }
     {
@@ -66,16 +74,19 @@ impl<W: Write> Script<W> {
     }
 
     /// Writes text.
-    fn say(&mut self, text: &str) -> Result<(), Trouble>
-        ensures text { OnOk result (Says text.now (W.contents self.old.writer) (W.contents self.new.writer)) }
-        ensures err { IfErr result (λ trouble. FailsToSay trouble text.now (W.contents self.old.writer) (W.contents self.new.writer)) }
+    fn say(&mut self, text: &str) -> Result<(), CopyFault>
+        ensures text { OnOk result
+            (Says text.now (W.contents self.old.writer) (W.contents self.new.writer)) }
+        ensures err { IfErr result
+            (λ trouble. FailsToSay trouble text.now (W.contents self.old.writer)
+            (W.contents self.new.writer)) }
         ensures next { self.new.next ≡ self.old.next }
         ensures fd { self.new.fd ≡ self.old.fd }
         ensures limits { self.new.limits ≡ self.old.limits }
     {
         match write_out(&mut self.writer, text.as_bytes()) {
             Ok(()) => Ok(()),
-            Err(_) => Err(Trouble::Write),
+            Err(_) => Err(CopyFault::Write),
         }
     }
 }
@@ -84,16 +95,18 @@ impl<W: Write> Target for Script<W> {
     ghost use Rattle.std.specs.Prelude.{◌≡◌};
     ghost use Rattle.ft_load.specs.Scripts.{BreaksOff, Scripts};
 
-    ghost does = { λ old asked new. Scripts old.limits asked old.next old.fd (W.contents old.writer) new.next new.fd (W.contents new.writer) × (new.limits ≡ old.limits) };
+    ghost does = { λ old asked new. Scripts old.limits asked old.next old.fd (W.contents old.writer)
+        new.next new.fd (W.contents new.writer) × (new.limits ≡ old.limits) };
 
-    ghost fails = { λ old asked trouble new. BreaksOff old.limits trouble asked old.next old.fd (W.contents old.writer) (W.contents new.writer) };
+    ghost fails = { λ old asked trouble new. BreaksOff old.limits trouble asked old.next old.fd
+        (W.contents old.writer) (W.contents new.writer) };
 
-    fn start(&mut self) -> Result<(), Trouble> {
+    fn start(&mut self) -> Result<(), CopyFault> {
         let line = format!(in self.alloc; "{}begin\n", NeedsLine(&self.limits))?;
         self.say(line.as_str())
     }
 
-    fn folder(&mut self, path: &[u8], attributes: Attributes) -> Result<(), Trouble> {
+    fn folder(&mut self, path: &[u8], attributes: Attributes) -> Result<(), CopyFault> {
         let call = Call::Mkdir {
             path: path_of(self.alloc, path)?,
             mode: said_mode(Kind::Dir, attributes.mode),
@@ -103,7 +116,7 @@ impl<W: Write> Target for Script<W> {
         self.ask_if(chown)
     }
 
-    fn open(&mut self, path: &[u8], attributes: Attributes) -> Result<(), Trouble> {
+    fn open(&mut self, path: &[u8], attributes: Attributes) -> Result<(), CopyFault> {
         let call = Call::Open {
             path: path_of(self.alloc, path)?,
             access: AccessMode::WriteOnly,
@@ -119,7 +132,7 @@ impl<W: Write> Target for Script<W> {
         self.ask_if(fchown_of(fd, attributes))
     }
 
-    fn piece(&mut self, bytes: &[u8]) -> Result<(), Trouble> {
+    fn piece(&mut self, bytes: &[u8]) -> Result<(), CopyFault> {
         let bytes = Vec::from_slice(self.alloc, bytes)?;
         let call = Call::Write {
             fd: self.fd,
@@ -128,13 +141,13 @@ impl<W: Write> Target for Script<W> {
         self.ask(&call)
     }
 
-    fn close(&mut self, time: Option<Timestamp>) -> Result<(), Trouble> {
+    fn close(&mut self, time: Option<Timestamp>) -> Result<(), CopyFault> {
         let fd = self.fd;
         self.ask_if(futime_of(fd, time))?;
         self.ask(&Call::Close { fd })
     }
 
-    fn link(&mut self, first: &[u8], path: &[u8]) -> Result<(), Trouble> {
+    fn link(&mut self, first: &[u8], path: &[u8]) -> Result<(), CopyFault> {
         let call = Call::Link {
             old: path_of(self.alloc, first)?,
             new: path_of(self.alloc, path)?,
@@ -142,7 +155,7 @@ impl<W: Write> Target for Script<W> {
         self.ask(&call)
     }
 
-    fn symlink(&mut self, to: &[u8], path: &[u8]) -> Result<(), Trouble> {
+    fn symlink(&mut self, to: &[u8], path: &[u8]) -> Result<(), CopyFault> {
         let call = Call::Symlink {
             target: path_of(self.alloc, to)?,
             path: path_of(self.alloc, path)?,
@@ -150,7 +163,7 @@ impl<W: Write> Target for Script<W> {
         self.ask(&call)
     }
 
-    fn finish(&mut self, attributes: Attributes) -> Result<(), Trouble> {
+    fn finish(&mut self, attributes: Attributes) -> Result<(), CopyFault> {
         let chmod = chmod_of(self.alloc, ROOT_PATH, attributes)?;
         let chown = chown_of(self.alloc, ROOT_PATH, attributes)?;
         self.ask_if(chmod)?;
@@ -161,15 +174,17 @@ impl<W: Write> Target for Script<W> {
     fn give_up(&mut self) {}
 }
 
-// The path that has these bytes.
-fn path_of(alloc: Global, bytes: &[u8]) -> Result<FilePath, Trouble>
+/// Returns the path that has these bytes.
+fn path_of(alloc: Global, bytes: &[u8]) -> Result<FilePath, CopyFault>
     ensures ok { IfOk result (λ path. path ≡ bytes.now) }
-    ensures err { IfErr result (λ trouble. (trouble ≡ Trouble.Memory) ⊎ ((trouble ≡ Trouble.BadName) × (has_nul bytes.now ≡ true))) }
+    ensures err { IfErr result
+        (λ trouble. (trouble ≡ CopyFault.Memory) ⊎ ((trouble ≡ CopyFault.BadName)
+        × (has_nul bytes.now ≡ true))) }
 {
     match FilePath::new(alloc, bytes) {
         Ok(path) => Ok(path),
-        Err(PathFault::Memory) => Err(Trouble::Memory),
-        Err(PathFault::NulByte) => Err(Trouble::BadName),
+        Err(PathFault::Memory) => Err(CopyFault::Memory),
+        Err(PathFault::NulByte) => Err(CopyFault::BadName),
     }
 }
 
@@ -185,17 +200,19 @@ pub(crate) fn said_mode(kind: Kind, mode: u16) -> Option<u16>
     }
 }
 
-/// Whether owner and group must be said.
+/// Returns whether owner and group must be said.
 pub(crate) fn has_owners(attributes: Attributes) -> bool
     ensures { result ≡ has_owners attributes }
 {
     attributes.owner != 0 || attributes.group != 0
 }
 
-// The call that sets the owner and the group of what is at a path, if they must be set.
-fn chown_of(alloc: Global, path: &[u8], attributes: Attributes) -> Result<Option<Call>, Trouble>
+/// Returns the call that sets the owner and the group of what is at a path, if they must be set.
+fn chown_of(alloc: Global, path: &[u8], attributes: Attributes) -> Result<Option<Call>, CopyFault>
     ensures ok { IfOk result (λ call. call ≡ chown_of path.now attributes) }
-    ensures err { IfErr result (λ trouble. (trouble ≡ Trouble.Memory) ⊎ ((trouble ≡ Trouble.BadName) × (has_nul path.now ≡ true))) }
+    ensures err { IfErr result
+        (λ trouble. (trouble ≡ CopyFault.Memory) ⊎ ((trouble ≡ CopyFault.BadName)
+        × (has_nul path.now ≡ true))) }
 {
     if !has_owners(attributes) {
         return Ok(None);
@@ -207,7 +224,7 @@ fn chown_of(alloc: Global, path: &[u8], attributes: Attributes) -> Result<Option
     }))
 }
 
-// The same of the open file.
+/// Returns the call that sets the owner and the group of the open file, if they must be set.
 fn fchown_of(fd: u64, attributes: Attributes) -> Option<Call>
     ensures { result ≡ fchown_of fd attributes }
 {
@@ -221,7 +238,7 @@ fn fchown_of(fd: u64, attributes: Attributes) -> Option<Call>
     })
 }
 
-// The call that sets the time of the bytes of the open file, if there is one.
+/// Returns the call that sets the time of the bytes of the open file, if there is one.
 fn futime_of(fd: u64, time: Option<Timestamp>) -> Option<Call>
     ensures { result ≡ futime_of fd time }
 {
@@ -229,10 +246,12 @@ fn futime_of(fd: u64, time: Option<Timestamp>) -> Option<Call>
     Some(Call::Futime { fd, time })
 }
 
-// The call that sets the mode of the directory at a path, if it must be set.
-fn chmod_of(alloc: Global, path: &[u8], attributes: Attributes) -> Result<Option<Call>, Trouble>
+/// Returns the call that sets the mode of the directory at a path, if it must be set.
+fn chmod_of(alloc: Global, path: &[u8], attributes: Attributes) -> Result<Option<Call>, CopyFault>
     ensures ok { IfOk result (λ call. call ≡ chmod_of path.now attributes) }
-    ensures err { IfErr result (λ trouble. (trouble ≡ Trouble.Memory) ⊎ ((trouble ≡ Trouble.BadName) × (has_nul path.now ≡ true))) }
+    ensures err { IfErr result
+        (λ trouble. (trouble ≡ CopyFault.Memory) ⊎ ((trouble ≡ CopyFault.BadName)
+        × (has_nul path.now ≡ true))) }
 {
     let Some(mode) = said_mode(Kind::Dir, attributes.mode) else {
         return Ok(None);

@@ -18,14 +18,14 @@ use Rattle.ft_cells.specs.declared.cell.Cell.{Cell}
 use Rattle.ft_cells.specs.declared.cell.Cell.TheVariants.{Entry, Names, Parent, Links, Bytes, Fd, DirAttributes, FileAttributes}
 use Rattle.ft_locks.specs.declared.cells.Locked.{Locked}
 use Rattle.ft_locks.specs.EntryKeys.{EntryKeys, listed_keys, key_at, spot_of, same_spot, is_spot, IsMoved}
-use Rattle.ft_moss.specs.Holders.{Owners}
-use Rattle.ft_moss.specs.Cells.{Keyed}
+use Rattle.ft_lock_rules.specs.CellLocks.{Owners}
+use Rattle.ft_lock_rules.specs.Cells.{Keyed}
 use Rattle.ft_locks.specs.Slots.{cells_of, at_of, AreKeyed, spot_in, shown, with_place, ArePlaced, HaveGap, ShowSame}
-use Rattle.ft_moss.specs.Blocking.{is_entry_of, AreEntriesOf}
-use Rattle.ft_moss.proofs.Joining.{itself}
-use Rattle.ft_moss.proofs.CellViews.{key_in}
+use Rattle.ft_lock_rules.specs.Blocking.{is_entry_of, AreEntriesOf}
+use Rattle.ft_lock_rules.proofs.Joining.{itself}
+use Rattle.ft_lock_rules.proofs.CellViews.{key_in}
 use Rattle.ft_locks.proofs.Slots.{seen-at, seen-key, at-there, at-none}
-use Rattle.ft_moss.proofs.Paired.{IsPaired, the_one, tie, tied, untied, paired-put, paired-out, paired-same}
+use Rattle.ft_lock_rules.proofs.Paired.{IsPaired, the_one, tie, tied, untied, paired-put, paired-out, paired-same}
 
 pub same_spot-is : (s t : ℕ × ℕ) → same_spot s t ≡ true → s ≡ t
 same_spot-is s t e =

@@ -11,13 +11,13 @@ use Rattle.ft_posix.proofs.Listed.{entries-get}
 use Rattle.ft_cells.specs.declared.cell.Cell.{Cell}
 use Rattle.ft_cells.specs.CellOrder.{cell_cmp, same_cell, same_cell-is}
 use Rattle.ft_locks.specs.declared.cells.Locked.{Locked}
-use Rattle.ft_moss.specs.Cells.{CellKeys}
-use Rattle.ft_moss.proofs.CellViews.{key_in, same_cells}
-use Rattle.ft_moss.proofs.Paired.{IsPaired, the_one, tie, tied, paired-put, paired-out}
+use Rattle.ft_lock_rules.specs.Cells.{CellKeys}
+use Rattle.ft_lock_rules.proofs.CellViews.{key_in, same_cells}
+use Rattle.ft_lock_rules.proofs.Paired.{IsPaired, the_one, tie, tied, paired-put, paired-out}
 use Rattle.ft_locks.specs.Hashes.{cell_hash, AreHashed}
 use Rattle.ft_locks.specs.Slots.{owners_of, cells_of, at_of, keys_in, AreKeyed}
 use Rattle.slab.specs.Slab.{Slab, get, slab_len}
-use Rattle.ft_locks.proofs.Slots.{same_itself, at-none, get-cells}
+use Rattle.ft_locks.proofs.Slots.{cells-some, same_itself, at-none, get-cells}
 
 -- no cell stands under two keys
 abbrev pub AreApart : CellKeys → Type 0
@@ -203,6 +203,14 @@ nothing_in s k none = by_slot (get s k) refl
     by_slot : (o : Option Locked) → get s k ≡ o → get s k ≡ None
     by_slot None e = e
     by_slot (Some l) e = let listed = (Contains-entries s k l).1 e in absurd (omega (arith, listed.1, length-entries s, none))
+
+-- and so no cell
+pub nothing-there : (s : Slab Locked) → AreKeyed (at_of s) (keys_in (at_of s)) → (slab_len s == 0) ≡ true → (c : Cell) → finite.contains_key (cells_of s (keys_in (at_of s))) c ≡ false
+nothing-there s keyed empty c = cells-some s (keys_in (at_of s)) c ∙ by_key (key_in (keys_in (at_of s)) c) refl
+  where
+    by_key : (o : Option ℕ) → key_in (keys_in (at_of s)) c ≡ o → is_some (key_in (keys_in (at_of s)) c) ≡ false
+    by_key None e = ap is_some e
+    by_key (Some k) e = absurd (false≢true (ap is_some (sym (at-none s k (nothing_in s k (eqb-true (slab_len s) 0 empty))) ∙ (keyed c k).0 e)))
 
 -- an empty slab
 pub keyed-empty : (s : Slab Locked) → s.slots ≡ [] → AreKeyed (at_of s) (keys_in (at_of s))

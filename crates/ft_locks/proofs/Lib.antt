@@ -5,3 +5,4 @@ pub mod EntryKeys
 pub mod Nameless
 pub mod Listed
 pub mod TakenBack
+pub mod GivenUp

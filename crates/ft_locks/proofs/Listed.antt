@@ -15,29 +15,29 @@ use Rattle.std.specs.Cmp.{IsEquivalence, nat_eq_equiv, unsigned_tied, eq_by_cmp_
 use Rattle.std.specs.FinMap as finite
 use Rattle.ft_laws.specs.Lists.{Each, Pairs, In}
 use Rattle.ft_laws.proofs.Tests.{by_test}
-use Rattle.ft_base.specs.Chains.{Lists}
+use Rattle.ft_base.specs.OwnedLists.{Lists}
 use Rattle.ft_cells.specs.declared.cell.Cell.{Cell}
 use Rattle.ft_cells.specs.CellOrder.{cell_cmp, cell_cmp_total, same_cell, same_cell-is}
 use Rattle.ft_posix.specs.declared.call.Mode.{Mode}
 use Rattle.ft_posix.specs.declared.call.Mode.TheVariants.{Read as ReadMode, Write as WriteMode}
-use Rattle.ft_moss.specs.declared.line.LockKind.{LockKind}
-use Rattle.ft_moss.specs.declared.line.LockKind.TheVariants.{Held, Retained}
-use Rattle.ft_moss.specs.declared.line.LockLine.{LockLine}
-use Rattle.ft_moss.specs.declared.holders.Holding.{Holding}
-use Rattle.ft_moss.specs.Marks.{has_mark}
+use Rattle.ft_lock_rules.specs.declared.line.LockKind.{LockKind}
+use Rattle.ft_lock_rules.specs.declared.line.LockKind.TheVariants.{Held, Retained}
+use Rattle.ft_lock_rules.specs.declared.line.LockLine.{LockLine}
+use Rattle.ft_lock_rules.specs.declared.cell_locks.OwnerLocks.{OwnerLocks}
+use Rattle.ft_lock_rules.specs.LockModes.{has_mark}
 use Rattle.ft_locks.specs.declared.cells.Locked.{Locked}
-use Rattle.ft_moss.specs.Holders.{as_entries, AreApart, marks_in}
-use Rattle.ft_moss.specs.declared.marks.Marks.{Marks}
+use Rattle.ft_lock_rules.specs.CellLocks.{as_entries, AreApart, marks_in}
+use Rattle.ft_lock_rules.specs.declared.lock_modes.LockModes.{LockModes}
 use Rattle.ft_locks.specs.Slots.{owners_of, cells_of, at_of, AreKeyed, is_on}
-use Rattle.ft_moss.specs.Cells.{Cells}
-use Rattle.ft_moss.specs.Seen.{has_mark_of, has_line, table_of}
-use Rattle.ft_moss.specs.Locks.{LockTable, line_cmp, line_cmp_total, has_lock, AreListed}
-use Rattle.ft_moss.specs.Listing.{same_line, times_listed, once, AreAdded, is_by}
-use Rattle.ft_moss.proofs.HolderLists.{owner_passes, get-seen}
-use Rattle.ft_moss.proofs.CellViews.{key_in}
+use Rattle.ft_lock_rules.specs.Cells.{Cells}
+use Rattle.ft_lock_rules.specs.Seen.{has_mark_of, has_line, table_of}
+use Rattle.ft_lock_rules.specs.Locks.{LockTable, line_cmp, line_cmp_total, has_lock, AreListed}
+use Rattle.ft_lock_rules.specs.Listing.{same_line, times_listed, once, AreAdded, is_by}
+use Rattle.ft_lock_rules.proofs.HolderLists.{owner_passes, get-seen}
+use Rattle.ft_lock_rules.proofs.CellViews.{key_in}
 use Rattle.ft_locks.proofs.Slots.{at-there, at-none, get-cells, cells-there, any_there, there_any}
-use Rattle.ft_moss.proofs.Paired.{the_one}
-use Rattle.ft_moss.proofs.Tables.{line, same_line-is, same_truth, lines-seen}
+use Rattle.ft_lock_rules.proofs.Paired.{the_one}
+use Rattle.ft_lock_rules.proofs.Tables.{line, same_line-is, same_truth, lines-seen}
 
 -- the list has the lock
 abbrev is_listed : List LockLine → LockLine → Bool
@@ -85,7 +85,7 @@ module _ (c d : Cell) (u v : ℕ) (old : ℕ) where
       grouped false b e = refl
 
 -- The four locks that there may be.
-pub four : (c : Cell) (h : Holding) (old : ℕ) (l : LockLine) →
+pub four : (c : Cell) (h : OwnerLocks) (old : ℕ) (l : LockLine) →
     (((old + once (same_line l (line c h.owner ReadMode Held) && has_mark h.marks ReadMode Held))
     + once (same_line l (line c h.owner ReadMode Retained) && has_mark h.marks ReadMode Retained))
     + once (same_line l (line c h.owner WriteMode Held) && has_mark h.marks WriteMode Held))
@@ -116,10 +116,10 @@ four c h old l = by_kind l.cell l.owner l.mode l.kind
         (skip _ _ h.marks.write_held (over (cell_cmp d c) (nat_cmp v h.owner)) ∙ skip _ _ h.marks.read_retained (over (cell_cmp d c) (nat_cmp v h.owner)) ∙ skip old _ h.marks.read_held (over (cell_cmp d c) (nat_cmp v h.owner)))
         ∙ same c d h.owner v old h.marks.write_retained
 
-abbrev AddsLock : Cell → Holding → Mode → LockKind → List LockLine → List LockLine → Type 0
+abbrev AddsLock : Cell → OwnerLocks → Mode → LockKind → List LockLine → List LockLine → Type 0
 AddsLock c h m k old new = AreAdded old new (λ l. once (same_line l (line c h.owner m k) && has_mark h.marks m k))
 
-pub four_added : (c : Cell) (h : Holding) (none one two three all : List LockLine) → AddsLock c h ReadMode Held none one → AddsLock c h ReadMode Retained one two → AddsLock c h WriteMode Held two three
+pub four_added : (c : Cell) (h : OwnerLocks) (none one two three all : List LockLine) → AddsLock c h ReadMode Held none one → AddsLock c h ReadMode Retained one two → AddsLock c h WriteMode Held two three
     → AddsLock c h WriteMode Retained three all → AreAdded none all (λ l. once (is_by c l h))
 four_added c h none one two three all first second third fourth l =
     fourth l ∙ ap (λ n. n + at WriteMode Retained) (third l ∙ ap (λ n. n + at WriteMode Held) (second l ∙ ap (λ n. n + at ReadMode Retained) (first l))) ∙ four c h (times_listed none l) l
@@ -146,7 +146,7 @@ lock_skipped old y has absent l = let none : times_listed old l ≡ times_listed
     and_false false = refl
 
 -- the locks of one owner more
-pub holding_more : (c : Cell) (l : LockLine) (list : List Holding) (i : ℕ) (h : Holding) (first before after : ℕ) → i < length list → before ≡ first + count_by (is_by c l) (take i list)
+pub holding_more : (c : Cell) (l : LockLine) (list : List OwnerLocks) (i : ℕ) (h : OwnerLocks) (first before after : ℕ) → i < length list → before ≡ first + count_by (is_by c l) (take i list)
     → after ≡ before + once (is_by c l (get_or list i h)) → after ≡ first + count_by (is_by c l) (take (i + 1) list)
 holding_more c l list i h first before after within so_far added = let more = sum_by_more (λ x. once (is_by c l x)) list i h within in omega arith
 
@@ -165,14 +165,14 @@ any_kept true p xs = refl
 any_kept false p [] = refl
 any_kept false p (x ∷ xs) = any_kept false p xs
 
-cell_listed : (e : Locked) (l : LockLine) (list : List Holding) → finite.from_entries (as_entries list) ≡ e.holders → AreApart list → list_any (is_by e.cell l) list ≡ is_on l e
+cell_listed : (e : Locked) (l : LockLine) (list : List OwnerLocks) → finite.from_entries (as_entries list) ≡ e.holders → AreApart list → list_any (is_by e.cell l) list ≡ is_on l e
 cell_listed e l list are apart =
     any_kept (same_cell l.cell e.cell) (λ h. (h.owner == l.owner) && has_mark h.marks l.mode l.kind) list
     ∙ ap (λ b. same_cell l.cell e.cell && b) (owner_passes (λ o. has_mark_of o l) refl list apart l.owner
     ∙ ap (λ o. has_mark_of o l) (sym (get-seen list l.owner) ∙ ap (λ m. finite.get m l.owner) are))
 
 -- an owner that stands once is counted once
-owner_counted : (k : Bool) (p : Option Marks → Bool) → p None ≡ false → (list : List Holding) → AreApart list → (u : ℕ)
+owner_counted : (k : Bool) (p : Option LockModes → Bool) → p None ≡ false → (list : List OwnerLocks) → AreApart list → (u : ℕ)
     → count_by (λ h. k && ((h.owner == u) && p (Some h.marks))) list ≡ once (list_any (λ h. k && ((h.owner == u) && p (Some h.marks))) list)
 owner_counted k p none [] apart u = refl
 owner_counted k p none (h ∷ more) apart u = count-cons (λ x. k && ((x.owner == u) && p (Some x.marks))) h more (owner_counted k p none more apart.1 u)
@@ -185,11 +185,11 @@ owner_counted k p none (h ∷ more) apart u = count-cons (λ x. k && ((x.owner =
     and_false false = refl
 
 -- so is a lock on the cell
-cell_counted : (e : Locked) (l : LockLine) (list : List Holding) → finite.from_entries (as_entries list) ≡ e.holders → AreApart list → count_by (is_by e.cell l) list ≡ once (is_on l e)
+cell_counted : (e : Locked) (l : LockLine) (list : List OwnerLocks) → finite.from_entries (as_entries list) ≡ e.holders → AreApart list → count_by (is_by e.cell l) list ≡ once (is_on l e)
 cell_counted e l list are apart = owner_counted (same_cell l.cell e.cell) (λ o. has_mark_of o l) refl list apart l.owner ∙ ap once (cell_listed e l list are apart)
 
 -- One cell more of those that are left.
-pub cell_more : (x : ℕ × Locked) (list : List Holding) (old new : List LockLine) (l : LockLine) (rest : List (ℕ × Locked)) → finite.from_entries (as_entries list) ≡ x.1.holders → AreApart list
+pub cell_more : (x : ℕ × Locked) (list : List OwnerLocks) (old new : List LockLine) (l : LockLine) (rest : List (ℕ × Locked)) → finite.from_entries (as_entries list) ≡ x.1.holders → AreApart list
     → times_listed new l ≡ times_listed old l + count_by (is_by x.1.cell l) list → times_listed new l + count_by (λ p. is_on l p.1) rest ≡ times_listed old l + count_by (λ p. is_on l p.1) (x ∷ rest)
 cell_more x list old new l rest are apart added =
     let counted = cell_counted x.1 l list are apart in

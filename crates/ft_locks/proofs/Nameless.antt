@@ -9,12 +9,12 @@ use Rattle.ft_cells.specs.declared.cell.Cell.{Cell}
 use Rattle.ft_cells.specs.declared.cell.Cell.TheVariants.{Names}
 use Rattle.ft_posix.specs.declared.call.Mode.{Mode}
 use Rattle.ft_locks.specs.declared.cells.Locked.{Locked}
-use Rattle.ft_moss.specs.Cells.{Cells, CellKeys, Keyed}
+use Rattle.ft_lock_rules.specs.Cells.{Cells, CellKeys, Keyed}
 use Rattle.ft_locks.specs.Slots.{cells_of, at_of, AreKeyed, is_names, HaveNoNames}
-use Rattle.ft_moss.specs.Blocking.{Found, AreNoted, Counted, is_in_way, way}
-use Rattle.ft_moss.proofs.CellViews.{key_in}
-use Rattle.ft_moss.proofs.Paired.{the_one}
-use Rattle.ft_moss.proofs.Places.{marks-missing}
+use Rattle.ft_lock_rules.specs.Blocking.{Found, AreNoted, Counted, is_in_way, way}
+use Rattle.ft_lock_rules.proofs.CellViews.{key_in}
+use Rattle.ft_lock_rules.proofs.Paired.{the_one}
+use Rattle.ft_lock_rules.proofs.Places.{marks-missing}
 use Rattle.ft_locks.proofs.Slots.{at-none, seen-key}
 use Rattle.ft_locks.proofs.Hashed.{nothing_in}
 

@@ -14,13 +14,13 @@ use Rattle.slab.proofs.SlabLemmas.{Updates-with_value}
 use Rattle.ft_cells.specs.declared.cell.Cell.{Cell}
 use Rattle.ft_cells.specs.CellOrder.{cell_cmp, cell_cmp_total, same_cell, same_cell-is}
 use Rattle.ft_locks.specs.declared.cells.Locked.{Locked}
-use Rattle.ft_moss.specs.Holders.{Owners}
-use Rattle.ft_moss.specs.Cells.{Cells, CellKeys, Keyed, marks_at, holders_of, holders_under}
+use Rattle.ft_lock_rules.specs.CellLocks.{Owners}
+use Rattle.ft_lock_rules.specs.Cells.{Cells, CellKeys, Keyed, marks_at, holders_of, holders_under}
 use Rattle.ft_locks.specs.Slots.{owners_of, cells_of, at_of, keys_in, keyed_of, AreKeyed, shown, ShowSame}
 use Rattle.ft_locks.specs.Lending.{with_holders_of, with_holders}
-use Rattle.ft_moss.proofs.Paired.{the_one, tie, no_tie, tied, untied, paired-put, paired-out, paired-same}
-use Rattle.ft_moss.proofs.CellViews.{key_in, same_cells, turned_cell}
-use Rattle.ft_moss.proofs.Places.{put_back}
+use Rattle.ft_lock_rules.proofs.Paired.{the_one, tie, no_tie, tied, untied, paired-put, paired-out, paired-same}
+use Rattle.ft_lock_rules.proofs.CellViews.{key_in, same_cells, turned_cell}
+use Rattle.ft_lock_rules.proofs.Places.{put_back}
 
 pub same_itself : (c : Cell) → same_cell c c ≡ true
 same_itself c = (eq_by_cmp_equiv cell_cmp_total).refl c

@@ -4,16 +4,16 @@ use Rattle.std.proofs.lemmas.Bool.{eqb-true}
 use Rattle.std.specs.List.{list_any}
 use Rattle.std.specs.Option.{IfSome, IfNone}
 use Rattle.std.specs.FinMap as finite
-use Rattle.ft_base.specs.Chains.{list_in}
+use Rattle.ft_base.specs.OwnedLists.{list_in}
 use Rattle.ft_cells.specs.declared.cell.Cell.{Cell}
 use Rattle.ft_cells.specs.CellOrder.{same_cell}
-use Rattle.ft_moss.specs.declared.marks.Marks.{Marks}
+use Rattle.ft_lock_rules.specs.declared.lock_modes.LockModes.{LockModes}
 use Rattle.ft_locks.specs.declared.holdings.Dropped.{Dropped}
-use Rattle.ft_moss.specs.Cells.{marks_at}
-use Rattle.ft_moss.specs.Holdings.{Held as Places, AreOpenStill, after_back, IsDropped}
-use Rattle.ft_moss.proofs.Joining.{open_if_listed, still-insert}
+use Rattle.ft_lock_rules.specs.Cells.{marks_at}
+use Rattle.ft_lock_rules.specs.Holdings.{Held as Places, AreOpenStill, after_back, IsDropped}
+use Rattle.ft_lock_rules.proofs.Joining.{open_if_listed, still-insert}
 
-back_bools : (a s t : Bool) (x : Option Marks) → cond (a && t) None (cond (s && a) None x) ≡ cond (a && (s || t)) None x
+back_bools : (a s t : Bool) (x : Option LockModes) → cond (a && t) None (cond (s && a) None x) ≡ cond (a && (s || t)) None x
 back_bools true true true x = refl
 back_bools true true false x = refl
 back_bools true false t x = refl

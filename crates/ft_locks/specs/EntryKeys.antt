@@ -20,7 +20,11 @@ listed_keys (Some keys) = keys.items
 abbrev pub key_at : EntryKeys → ℕ → ℕ → Option ℕ
 key_at m dir place = slice_get (listed_keys (finite.get m dir)) place
 
--- the directory of an entry, with a place in its list; another cell stands in none
+-- the keys at some places become this one, and no others change
+abbrev pub UpdatesKeys : EntryKeys → EntryKeys → (ℕ × ℕ → Bool) → Option ℕ → Type 0
+UpdatesKeys old new is_there to = (t : ℕ × ℕ) → key_at new t.0 t.1 ≡ cond (is_there t) to (key_at old t.0 t.1)
+
+-- the directory of an entry, with a place in its list; another cell is in no list
 abbrev pub spot_of : Cell → ℕ → Option (ℕ × ℕ)
 spot_of (Entry entry) place = Some (entry.dir, place)
 spot_of (Names d) place = None
@@ -31,7 +35,7 @@ spot_of (Fd f) place = None
 spot_of (DirAttributes d) place = None
 spot_of (FileAttributes i) place = None
 
--- the same directory and the same place in its list
+-- the directory and the place in its list are the same
 abbrev pub same_spot : ℕ × ℕ → ℕ × ℕ → Bool
 same_spot s t = (t.0 == s.0) && (t.1 == s.1)
 
@@ -40,7 +44,7 @@ abbrev pub is_spot : Option (ℕ × ℕ) → ℕ × ℕ → Bool
 is_spot None t = false
 is_spot (Some s) t = same_spot s t
 
--- the last key of a list has moved to the place of one that was taken out
+-- the last key of a list has moved to the place of one that was removed
 pub record IsMoved (old new : EntryKeys) (dir place moved : ℕ) : Type 0 where
   pub last : ℕ
   pub apart : last ≢ place

@@ -7,9 +7,9 @@ use Rattle.ft_index.specs.Mix.{mix}
 use Rattle.ft_path.specs.Hashed.{hashed}
 use Rattle.ft_cells.specs.declared.cell.Cell.{Cell}
 use Rattle.ft_cells.specs.declared.cell.Cell.TheVariants.{Entry, Names, Parent, Links, Bytes, Fd, DirAttributes, FileAttributes}
-use Rattle.ft_moss.specs.Cells.{CellKeys}
+use Rattle.ft_lock_rules.specs.Cells.{CellKeys}
 
--- a number, the kind of its cell and for an entry the name are mixed
+-- the number of a cell, mixed with its kind or, for an entry, with the name
 abbrev pub mixed : ℕ → Cell → ℕ
 mixed seed (Entry entry) = hashed (mix seed entry.dir) entry.name
 mixed seed (Names d) = mix (mix seed d) 1
@@ -24,6 +24,6 @@ mixed seed (FileAttributes i) = mix (mix seed i) 7
 unfoldable pub cell_hash : ℕ → Cell → ℕ
 cell_hash seed c = mixed seed c / 2 ^ 32
 
--- an index has each key under which a cell stands, by the cell's hash, and no other
+-- an index has each key under which a cell is stored, with the cell's hash, and no other key
 abbrev pub AreHashed : finite.FinMap nat_cmp ℕ → ℕ → CellKeys → Type 0
 AreHashed index seed at = (key : ℕ) → finite.get index key ≡ option_map (cell_hash seed) (finite.get at key)

@@ -12,14 +12,14 @@ use ft_tree::Cell;
 use slab::Slab;
 use std::alloc::Global;
 
-/// The keys under which cells stand in a slab, by the hashes of the cells.
+/// The keys of the cells in a slab, by the hashes of the cells.
 #[derive(Drop)]
 pub(crate) struct CellIndex {
     pub(crate) index: Index,
     pub(crate) seed: u64,
 }
 
-/// The number, the kind and the name of a cell, mixed.
+/// Returns the number, the kind and the name of a cell, mixed with a seed.
 fn mixed(seed: u64, cell: &Cell) -> u64
     ensures { result ≡ mixed seed cell.now }
 {
@@ -35,7 +35,7 @@ fn mixed(seed: u64, cell: &Cell) -> u64
     }
 }
 
-/// The hash of a cell.
+/// Returns the hash of a cell.
 #[tactic(auto, unfolding(crate::specs::Hashes::cell_hash))]
 fn hash_of(seed: u64, cell: &Cell) -> u32
     ensures { result ≡ cell_hash seed cell.now }
@@ -43,7 +43,7 @@ fn hash_of(seed: u64, cell: &Cell) -> u32
     (mixed(seed, cell) >> 32) as u32
 }
 
-/// Whether a cell stands under a key.
+/// Returns whether a cell is stored under a key.
 fn stands_at(locked: &Slab<Locked>, key: usize, cell: &Cell) -> bool
     ensures { (result ≡ true) ↔ (finite.get (at_of locked.now) key ≡ Some cell.now) }
 {
@@ -53,10 +53,11 @@ fn stands_at(locked: &Slab<Locked>, key: usize, cell: &Cell) -> bool
     }
 }
 
-/// The first of some keys under which a cell stands.
+/// Returns the first of some keys under which a cell is stored, if there is one.
 fn first_at(locked: &Slab<Locked>, keys: Candidates<'_>, cell: &Cell) -> Option<usize>
     ensures some { IfSome result (λ key. finite.get (at_of locked.now) key ≡ Some cell.now) }
-    ensures none { IfNone result ((key : ℕ) → Contains keys.entry key → finite.get (at_of locked.now) key ≡ Some cell.now → ⊥) }
+    ensures none { IfNone result ((key : ℕ) → Contains keys.entry key
+        → finite.get (at_of locked.now) key ≡ Some cell.now → ⊥) }
 {
     for key in keys {
         if stands_at(locked, key, cell) {
@@ -67,7 +68,7 @@ fn first_at(locked: &Slab<Locked>, keys: Candidates<'_>, cell: &Cell) -> Option<
 }
 
 impl CellIndex {
-    /// No key. Takes no memory.
+    /// Returns an index without keys. Takes no memory.
     pub(crate) fn new(alloc: Global) -> CellIndex
         ensures { result.index ≡ finite.empty }
     {
@@ -77,28 +78,31 @@ impl CellIndex {
         }
     }
 
-    /// The key under which a cell stands, if it does.
+    /// Returns the key under which a cell is stored, if it is.
     pub(crate) fn find(&self, locked: &Slab<Locked>, cell: &Cell) -> Option<usize>
         requires { AreHashed self.now.index self.now.seed (at_of locked.now) }
         ensures some { IfSome result (λ key. finite.get (at_of locked.now) key ≡ Some cell.now) }
-        ensures none { IfNone result ((key : ℕ) → finite.get (at_of locked.now) key ≡ Some cell.now → ⊥) }
+        ensures none { IfNone result ((key : ℕ) → finite.get (at_of locked.now) key ≡ Some cell.now
+            → ⊥) }
     {
         let hash = hash_of(self.seed, cell);
         first_at(locked, self.index.candidates(hash), cell)
     }
 
-    /// Adds a key that it does not have, of this cell. Want of memory changes nothing.
+    /// Adds a key that the index does not have, with the hash of this cell. If there is not enough
+    /// memory, nothing changes.
     pub(crate) fn add(&mut self, key: usize, cell: &Cell) -> Result<(), Memory>
         requires { finite.get self.old.index key ≡ None }
         ensures seed { self.new.seed ≡ self.old.seed }
-        ensures ok { OnOk result (self.new.index ≡ finite.insert self.old.index key (cell_hash self.old.seed cell.now)) }
+        ensures ok { OnOk result (self.new.index
+            ≡ finite.insert self.old.index key (cell_hash self.old.seed cell.now)) }
         ensures err { OnErr result (self.new.index ≡ self.old.index) }
     {
         let hash = hash_of(self.seed, cell);
         self.index.insert(key, hash)
     }
 
-    /// Takes out a key, of this cell. Takes no memory.
+    /// Removes the key of this cell. Takes no memory.
     pub(crate) fn remove(&mut self, key: usize, cell: &Cell)
         requires { finite.get self.old.index key ≡ Some (cell_hash self.old.seed cell.now) }
         ensures seed { self.new.seed ≡ self.old.seed }

@@ -1,26 +1,29 @@
-// The cells on which anybody has a place: each stands in a slab, and an index has its key.
-ghost use Rattle.std.specs.Prelude.{◌≡◌, ◌≢◌, ℕ, cond, ◌==◌, true, false, None, Some, IsSome, IsSomeAnd, is_some, OnOk, OnErr, IfOk, IfSome, IfNone};
+// The cells on which any owner has a place. A slab stores the cells, and an index has their keys.
+ghost use Rattle.std.specs.Prelude.{◌≡◌, ◌≢◌, ℕ, cond, ◌==◌, true, false, None, Some, IsSome, IsSomeAnd, is_some, OnOk, OnErr, OnSome, IfOk, IfSome, IfNone, ◌<◌};
 ghost use Rattle.std.specs.Option.{option_map, option_copied, option_copied_mut};
 ghost use Rattle.std.specs.FinMap as finite;
 ghost use Rattle.std.specs.Borrow.{sem};
 ghost use Rattle.ft_cells.specs.declared.cell.Cell.{Cell};
 ghost use Rattle.ft_cells.specs.declared.cell.Cell.TheVariants.{Names};
 ghost use Rattle.ft_cells.specs.CellOrder.{same_cell};
-ghost use Rattle.ft_moss.specs.Marks.{with_marks};
+ghost use Rattle.ft_lock_rules.specs.LockModes.{with_marks};
 ghost use Rattle.slab.specs.Slab.{get};
-ghost use Rattle.ft_moss.specs.Blocking.{AreEntriesOf};
+ghost use Rattle.ft_lock_rules.specs.Blocking.{AreEntriesOf};
 ghost use Rattle.ft_locks.specs.Hashes.{cell_hash};
-ghost use Rattle.ft_locks.specs.EntryKeys.{key_at, listed_keys, spot_of, is_spot};
+ghost use Rattle.ft_locks.specs.EntryKeys.{key_at, listed_keys, spot_of, is_spot, UpdatesKeys};
 ghost use Rattle.ft_locks.specs.Slots.{ArePlaced, HaveGap, ShowSame, with_place, is_names};
-ghost use Rattle.ft_moss.specs.Cells.{is_at, marks_at, passed_to, after_hand, holders_under, Keeps};
-ghost use Rattle.ft_moss.specs.Listing.{AreAdded, once};
-ghost use Rattle.ft_moss.specs.Seen.{has_line};
+ghost use Rattle.ft_lock_rules.specs.Cells.{marks_at, passed_to, after_hand, holders_under, Keeps, UpdatesMark};
+ghost use Rattle.ft_lock_rules.specs.Holdings.{AreSingle};
+ghost use Rattle.ft_lock_rules.specs.Listing.{AreAdded, once};
+ghost use Rattle.ft_lock_rules.specs.Seen.{has_line, is_marked_at};
+ghost use Rattle.ft_locks.specs.BulkReleased.{left_in, is_left, IsAllOf};
 
+use crate::bulk_released::BulkReleased;
 use crate::cell_index::CellIndex;
 use crate::entry_keys::EntryKeys;
 use crate::listing::list_cells;
 use ft_base::Memory;
-use ft_moss::{Holders, LockLine, Marks};
+use ft_lock_rules::{CellLocks, LockLine, LockModes};
 use ft_tree::Cell;
 use slab::Slab;
 use std::alloc::Global;
@@ -30,16 +33,16 @@ use std::marker::Model;
 #[derive(Drop)]
 pub(crate) struct Locked {
     pub(crate) cell: Cell,
-    pub(crate) holders: Holders,
-    /// Of an entry, the place of its key in its directory's list.
+    pub(crate) holders: CellLocks,
+    /// The place of its key in its directory's list, if the cell is an entry.
     pub(crate) place: usize,
 }
 
-/// For each cell in the table its holders.
+/// The holders of each cell in the table.
 ///
-/// Each cell stands under a key, from when it comes into the table until it leaves: who has the key
-/// finds the cell without its hash. To find a cell itself takes the time to hash it, however many
-/// there are. The entries of a directory are found by their keys, without a look at other cells.
+/// A cell keeps its key from when it enters the table until it leaves. With the key it is found
+/// without its hash. To find a cell itself takes the time to hash it, however many cells there are.
+/// The entries of a directory are found by their keys, without a look at other cells.
 #[derive(Drop)]
 pub(crate) struct LockedCells {
     alloc: Global,
@@ -52,7 +55,7 @@ pub(crate) struct LockedCells {
 }
 
 impl Model for LockedCells {
-    ghost use Rattle.ft_moss.specs.Cells.{Keyed, coded_keyed};
+    ghost use Rattle.ft_lock_rules.specs.Cells.{Keyed, coded_keyed};
     ghost use Rattle.ft_locks.specs.Slots.{keyed_of, AreKept};
 
     ghost Value = { Keyed };
@@ -61,7 +64,8 @@ impl Model for LockedCells {
 
     ghost view = { λ a. keyed_of a.locked };
 
-    ghost invariant = { λ a. AreKept a.locked a.index.index a.index.seed a.entries.keys a.has_names };
+    ghost invariant = { λ a. AreKept a.locked a.index.index a.index.seed a.entries.keys
+        a.has_names };
 }
 
 /// A place of an owner on a cell.
@@ -69,41 +73,44 @@ impl Model for LockedCells {
 pub(crate) struct Place {
     /// The key of the cell.
     pub(crate) key: usize,
-    /// The locks that the owner had there, if it had the place already.
-    pub(crate) had: Option<Marks>,
+    /// The locks that the owner had there, if it already had the place.
+    pub(crate) had: Option<LockModes>,
 }
 
-/// The owner of the places on cells that were let go. Transactions have numbers from 1 on.
-pub(crate) const LET_GO: u64 = 0;
+/// The owner of the places on released cells. Transactions have numbers from 1 on.
+pub(crate) const RELEASED: u64 = 0;
 
-/// What the next owner of a place gets of its locks.
-fn handed_to(to: u64, marks: Marks) -> Marks
+/// Returns the locks that the next owner of a place gets: none if the cell is released, else the
+/// same ones, retained.
+fn handed_to(to: u64, marks: LockModes) -> LockModes
     ensures { result ≡ passed_to to marks }
 {
-    if to == LET_GO {
-        Marks::none()
+    if to == RELEASED {
+        LockModes::none()
     } else {
-        marks.passed_on()
+        marks.as_retained()
     }
 }
 
-/// Whether a cell is the names of a directory.
+/// Returns whether a cell is the names of a directory.
 fn is_names(cell: &Cell) -> bool
     ensures { result ≡ is_names cell.now }
 {
     matches!(cell, Cell::Names(_))
 }
 
-/// Tells a cell its place.
+/// Sets the place that the cell under a key keeps, if there is one.
 fn set_place(slab: &mut Slab<Locked>, key: usize, place: usize)
-    ensures { (k : ℕ) → get slab.new k ≡ cond (k == key) (with_place place (get slab.old k)) (get slab.old k) }
+    ensures { (k : ℕ) → get slab.new k
+        ≡ cond (k == key) (with_place place (get slab.old k)) (get slab.old k) }
 {
     if let Some(locked) = slab.get_mut(key) {
         locked.place = place;
     }
 }
 
-/// Takes a key out of a directory's list; the key that comes in its place is told so.
+/// Removes a key from a directory's list. If another key moves into the gap, its cell gets the
+/// place.
 fn close_gap(locked: &mut Slab<Locked>, entries: &mut EntryKeys, dir: u64, place: usize)
     requires there { IsSome (key_at entries.old.keys dir place) }
     requires gap { HaveGap (get locked.old) entries.old.keys dir place }
@@ -115,8 +122,8 @@ fn close_gap(locked: &mut Slab<Locked>, entries: &mut EntryKeys, dir: u64, place
     }
 }
 
-/// Notes the key of a cell in the index and in its directory's list, and answers its place there.
-/// Want of memory changes nothing.
+/// Adds the key of a cell to the index and to its directory's list, and returns its place there. If
+/// there is not enough memory, nothing changes.
 fn note_key(
     index: &mut CellIndex,
     entries: &mut EntryKeys,
@@ -125,11 +132,17 @@ fn note_key(
 ) -> Result<usize, Memory>
     requires { finite.get index.old.index key ≡ None }
     ensures seed { index.new.seed ≡ index.old.seed }
-    ensures hashed { OnOk result (index.new.index ≡ finite.insert index.old.index key (cell_hash index.old.seed cell.now)) }
-    ensures free { IfOk result (λ place. (t : ℕ × ℕ) → is_spot (spot_of cell.now place) t ≡ true → key_at entries.old.keys t.0 t.1 ≡ None) }
-    ensures listed { IfOk result (λ place. (t : ℕ × ℕ) → key_at entries.new.keys t.0 t.1 ≡ cond (is_spot (spot_of cell.now place) t) (Some key) (key_at entries.old.keys t.0 t.1)) }
+    ensures hashed { OnOk result (index.new.index
+        ≡ finite.insert index.old.index key (cell_hash index.old.seed cell.now)) }
+    ensures free { IfOk result
+        (λ place. (t : ℕ × ℕ) → is_spot (spot_of cell.now place) t ≡ true
+        → key_at entries.old.keys t.0 t.1 ≡ None) }
+    ensures listed { IfOk result
+        (λ place. UpdatesKeys entries.old.keys entries.new.keys (is_spot (spot_of cell.now place))
+        (Some key)) }
     ensures index_kept { OnErr result (index.new.index ≡ index.old.index) }
-    ensures lists_kept { OnErr result ((t : ℕ × ℕ) → key_at entries.new.keys t.0 t.1 ≡ key_at entries.old.keys t.0 t.1) }
+    ensures lists_kept { OnErr result ((t : ℕ × ℕ)
+        → key_at entries.new.keys t.0 t.1 ≡ key_at entries.old.keys t.0 t.1) }
 {
     index.add(key, cell)?;
     let noted = entries.note(cell, key);
@@ -139,10 +152,35 @@ fn note_key(
     noted
 }
 
+/// Returns whether there is a cell under a key on which no owner but this one has a place.
+fn is_only_of(locked: &Slab<Locked>, key: usize, owner: u64) -> bool
+    ensures { result ≡ true → IsSomeAnd
+        (get locked.now key) (λ there. IsAllOf owner there.holders) }
+{
+    match locked.get(key) {
+        Some(there) => there.holders.is_last(owner),
+        None => false,
+    }
+}
+
+/// Returns whether there is such a cell under each of the first `count` keys: no owner but this one
+/// has a place on it.
+fn are_only_of(locked: &Slab<Locked>, count: usize, owner: u64) -> bool
+    ensures { result ≡ true → (k : ℕ) → k < count
+        → IsSomeAnd (get locked.now k) (λ there. IsAllOf owner there.holders) }
+{
+    for key in 0..count {
+        if !is_only_of(locked, key, owner) {
+            return false;
+        }
+    }
+    true
+}
+
 impl LockedCells {
     ghost use Rattle.ft_locks.specs.Lending.{LendsHolders};
 
-    /// No cell. Takes no memory.
+    /// Returns a table without cells. Takes no memory.
     pub(crate) fn new(alloc: Global) -> LockedCells
         ensures cells { result.cells ≡ finite.empty }
         ensures at { result.at ≡ finite.empty }
@@ -156,7 +194,7 @@ impl LockedCells {
         }
     }
 
-    /// Takes a seed for the hashes of cells, where the table is empty. Nothing is seen of it.
+    /// Sets the seed for the hashes of cells if the table is empty. Callers see no difference.
     pub(crate) fn seed(&mut self, seed: u64)
         ensures { self.new ≡ self.old }
     {
@@ -165,39 +203,42 @@ impl LockedCells {
         }
     }
 
-    /// The key of a cell, if it is in the table.
+    /// Returns the key of a cell, if it is in the table.
     fn key_of(&self, cell: &Cell) -> Option<usize>
         ensures at { IfSome result (λ key. finite.get self.now.at key ≡ Some cell.now) }
         ensures there { is_some result ≡ finite.contains_key self.now.cells cell.now }
     {
+        if self.locked.is_empty() {
+            return None;
+        }
         self.index.find(&self.locked, cell)
     }
 
-    /// The holders of the cell under a key, if there is one.
-    pub(crate) fn under(&self, key: usize) -> Option<&Holders>
+    /// Returns the holders of the cell under a key, if there is one.
+    pub(crate) fn under(&self, key: usize) -> Option<&CellLocks>
         ensures { option_copied result ≡ holders_under self.now key }
     {
         let locked = self.locked.get(key)?;
         Some(&locked.holders)
     }
 
-    /// The holders of a cell, if it is in the table.
-    pub(crate) fn get(&self, cell: &Cell) -> Option<&Holders>
+    /// Returns the holders of a cell, if it is in the table.
+    pub(crate) fn get(&self, cell: &Cell) -> Option<&CellLocks>
         ensures { option_copied result ≡ finite.get self.now.cells cell.now }
     {
         let key = self.key_of(cell)?;
         self.under(key)
     }
 
-    /// The keys of a directory's entries that are in the table, if there are any.
+    /// Returns the keys of a directory's entries that are in the table, if there are any.
     pub(crate) fn entries_of(&self, dir: u64) -> Option<&Vec<usize>>
         ensures { AreEntriesOf self.now dir (listed_keys (option_copied result)) }
     {
         self.entries.of(dir)
     }
 
-    /// Whether the names of some directory may be in the table. Where they are not, nobody who
-    /// looks at an entry has to look for them.
+    /// Returns whether the names of some directory may be in the table. If they are not, an access
+    /// to an entry need not look for them.
     pub(crate) fn may_have_names(&self) -> bool
         ensures { result ≡ false → (d : ℕ) → finite.get self.now.cells (Names d) ≡ None }
     {
@@ -206,19 +247,29 @@ impl LockedCells {
 
     /// Lists the locks on all cells, each once.
     pub(crate) fn list(&self, lines: &mut Vec<LockLine>) -> Result<(), Memory>
-        ensures { OnOk result (AreAdded lines.old.items lines.new.items (λ l. once (has_line self.now.cells l))) }
+        ensures { OnOk result (AreAdded lines.old.items
+            lines.new.items (λ l. once (has_line self.now.cells l))) }
     {
         list_cells(lines, &self.locked)
     }
 
-    /// Gives an owner a place on a cell, with these locks, where it has none. Want of memory
-    /// changes nothing.
-    pub(crate) fn place(&mut self, cell: &Cell, owner: u64, marks: Marks) -> Result<Place, Memory>
+    /// Gives an owner a place on a cell, with these locks, if it has none there. Returns the place
+    /// and the locks that the owner already had there. If there is not enough memory, nothing
+    /// changes.
+    pub(crate) fn place(
+        &mut self,
+        cell: &Cell,
+        owner: u64,
+        marks: LockModes,
+    ) -> Result<Place, Memory>
         ensures key { IfOk result (λ place. finite.get self.new.at place.key ≡ Some cell.now) }
         ensures had { IfOk result (λ place. place.had ≡ marks_at self.old.cells cell.now owner) }
-        ensures placed { IfOk result (λ place. place.had ≡ None → (c : Cell) (u : ℕ) → marks_at self.new.cells c u ≡ cond (is_at cell.now owner c u) (Some marks) (marks_at self.old.cells c u)) }
+        ensures placed { IfOk result
+            (λ place. place.had ≡ None
+            → UpdatesMark self.old.cells self.new.cells cell.now owner (λ _. Some marks)) }
         ensures kept { IfOk result (λ place. IsSome place.had → self.new ≡ self.old) }
-        ensures others { OnOk result ((k : ℕ) → IsSome (finite.get self.old.at k) → finite.get self.new.at k ≡ finite.get self.old.at k) }
+        ensures others { OnOk result ((k : ℕ) → IsSome (finite.get self.old.at k)
+            → finite.get self.new.at k ≡ finite.get self.old.at k) }
         ensures err { OnErr result (self.new ≡ self.old) }
     {
         if let Some(key) = self.key_of(cell) {
@@ -226,15 +277,16 @@ impl LockedCells {
             let had = holders.place(owner, marks)?;
             return Ok(Place { key, had });
         }
-        let mut holders = Holders::new(self.alloc);
+        let mut holders = CellLocks::new(self.alloc);
         holders.add(owner, marks)?;
         let key = self.insert(cell, holders)?;
         Ok(Place { key, had: None })
     }
 
-    /// Gives an owner that has a place on a cell these locks beside its own. Takes no memory.
-    pub(crate) fn mark(&mut self, cell: &Cell, owner: u64, marks: Marks)
-        ensures marks { (c : Cell) (u : ℕ) → marks_at self.new.cells c u ≡ cond (is_at cell.now owner c u) (option_map (λ own. with_marks own marks) (marks_at self.old.cells c u)) (marks_at self.old.cells c u) }
+    /// Adds these locks to those of an owner that has a place on a cell. Takes no memory.
+    pub(crate) fn mark(&mut self, cell: &Cell, owner: u64, marks: LockModes)
+        ensures marks { UpdatesMark self.old.cells self.new.cells
+            cell.now owner (option_map (λ own. with_marks own marks)) }
         ensures at { self.new.at ≡ self.old.at }
     {
         if let Some(key) = self.key_of(cell) {
@@ -243,13 +295,18 @@ impl LockedCells {
         }
     }
 
-    /// Gives an owner's place on the cell under a key to another, and answers whether that one had
-    /// a place there already. Takes no memory.
+    /// Hands an owner's place on the cell under a key to another owner. Returns whether the other
+    /// already had a place there. Takes no memory.
     pub(crate) fn hand_over(&mut self, key: usize, from: u64, to: u64) -> bool
-        requires there { IsSomeAnd (finite.get self.old.at key) (λ cell. IsSome (marks_at self.old.cells cell from)) }
+        requires there { IsSomeAnd
+            (finite.get self.old.at key) (λ cell. IsSome (marks_at self.old.cells cell from)) }
         requires apart { from ≢ to }
-        ensures merged { IfSome (finite.get self.old.at key) (λ cell. result ≡ is_some (marks_at self.old.cells cell to)) }
-        ensures after { IfSome (finite.get self.old.at key) (λ cell. (c : Cell) (u : ℕ) → marks_at self.new.cells c u ≡ cond (same_cell c cell) (after_hand from to (marks_at self.old.cells c) u) (marks_at self.old.cells c u)) }
+        ensures merged { IfSome (finite.get self.old.at key) (λ cell. result
+            ≡ is_some (marks_at self.old.cells cell to)) }
+        ensures after { IfSome (finite.get self.old.at key) (λ cell. (c : Cell) (u : ℕ)
+            → marks_at self.new.cells c u
+            ≡ cond (same_cell c cell) (after_hand from to (marks_at self.old.cells c) u)
+            (marks_at self.old.cells c u)) }
         ensures at { self.new.at ≡ self.old.at }
     {
         let holders = self.get_mut(key).unwrap();
@@ -257,14 +314,17 @@ impl LockedCells {
         holders.hand_over(from, to, handed_to(to, own))
     }
 
-    /// Takes an owner's place on the cell under a key away; with its last place the cell leaves the
-    /// table, and is answered. Takes no memory.
+    /// Removes an owner's place on the cell under a key. If it was the last place, the cell leaves
+    /// the table and is returned. Takes no memory.
     pub(crate) fn take_out(&mut self, key: usize, owner: u64) -> Option<Cell>
-        requires { IsSomeAnd (finite.get self.old.at key) (λ cell. IsSome (marks_at self.old.cells cell owner)) }
+        requires { IsSomeAnd (finite.get self.old.at key) (λ cell. IsSome
+            (marks_at self.old.cells cell owner)) }
         ensures cell { IfSome result (λ cell. finite.get self.old.at key ≡ Some cell) }
-        ensures after { IfSome (finite.get self.old.at key) (λ cell. (c : Cell) (u : ℕ) → marks_at self.new.cells c u ≡ cond (is_at cell owner c u) None (marks_at self.old.cells c u)) }
+        ensures after { IfSome (finite.get self.old.at key) (λ cell. UpdatesMark self.old.cells
+            self.new.cells cell owner (λ _. None)) }
         ensures gone { IfSome result (λ cell. (u : ℕ) → marks_at self.new.cells cell u ≡ None) }
-        ensures more { IfNone result (IfSome (finite.get self.old.at key) (λ cell. (u : ℕ) × IsSome (marks_at self.new.cells cell u))) }
+        ensures more { IfNone result (IfSome (finite.get self.old.at key) (λ cell. (u : ℕ)
+            × IsSome (marks_at self.new.cells cell u))) }
         ensures keys { Keeps self.old self.new }
     {
         let holders = self.get_mut(key).unwrap();
@@ -275,8 +335,37 @@ impl LockedCells {
         self.remove(key)
     }
 
-    /// The holders of the cell under a key, to be written. Takes no memory.
-    fn get_mut(&mut self, key: usize) -> Option<&mut Holders>
+    /// Returns an end above the keys of all cells, if no other owner has a place and no key below
+    /// the end is free. Takes at most the time of this owner's own places.
+    pub(crate) fn end_if_all_of(&self, owner: u64) -> Option<usize>
+        ensures alone { OnSome result ((c : Cell) (u : ℕ) → (u == owner) ≡ false
+            → marks_at self.now.cells c u ≡ None) }
+        ensures end { IfSome result (λ end. (k : ℕ) → IsSome (finite.get self.now.at k) → k < end) }
+    {
+        let end = self.locked.len();
+        if !are_only_of(&self.locked, end, owner) {
+            return None;
+        }
+        Some(end)
+    }
+
+    /// Moves all cells, whose keys are below an end, to `bulk` at once, with their holders. Takes
+    /// no memory.
+    pub(crate) fn give_up(&mut self, bulk: &mut BulkReleased, end: usize)
+        requires { (k : ℕ) → IsSome (finite.get self.old.at k) → k < end }
+        ensures single { AreSingle (left_in bulk.new) }
+        ensures given { (c : Cell) → is_left bulk.new c ≡ is_marked_at self.old.cells c }
+        ensures cells { self.new.cells ≡ finite.empty }
+        ensures at { self.new.at ≡ finite.empty }
+    {
+        bulk.fill(&mut self.locked, end);
+        self.index.index.clear();
+        self.entries.keys.clear();
+        self.has_names = false;
+    }
+
+    /// Returns the holders of the cell under a key, mutably, if there is one. Takes no memory.
+    fn get_mut(&mut self, key: usize) -> Option<&mut CellLocks>
         ensures* writes_back { sem 𝓛 (LendsHolders self.entry key result) }
         ensures value { option_copied_mut result ≡ holders_under self.old key }
     {
@@ -284,12 +373,13 @@ impl LockedCells {
         Some(&mut locked.holders)
     }
 
-    /// Puts a cell that is not there with its holders into the table, and answers its key. Want of
-    /// memory changes nothing.
-    fn insert(&mut self, cell: &Cell, holders: Holders) -> Result<usize, Memory>
+    /// Adds a cell that is not in the table, with its holders, and returns its key. If there is not
+    /// enough memory, nothing changes.
+    fn insert(&mut self, cell: &Cell, holders: CellLocks) -> Result<usize, Memory>
         requires { finite.get self.old.cells cell.now ≡ None }
         ensures fresh { IfOk result (λ key. finite.get self.old.at key ≡ None) }
-        ensures cells { OnOk result (self.new.cells ≡ finite.insert self.old.cells cell.now holders) }
+        ensures cells { OnOk result (self.new.cells
+            ≡ finite.insert self.old.cells cell.now holders) }
         ensures at { IfOk result (λ key. self.new.at ≡ finite.insert self.old.at key cell.now) }
         ensures err { OnErr result (self.new ≡ self.old) }
     {
@@ -307,7 +397,8 @@ impl LockedCells {
         )
     }
 
-    /// Takes the cell under a key, if there is one, out of the table. Takes no memory.
+    /// Removes the cell under a key from the table and returns it, if there is one. Takes no
+    /// memory.
     fn remove(&mut self, key: usize) -> Option<Cell>
         ensures cell { result ≡ finite.get self.old.at key }
         ensures cells { IfSome result (λ cell. self.new.cells ≡ finite.remove self.old.cells cell) }

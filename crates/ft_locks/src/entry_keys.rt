@@ -2,16 +2,16 @@
 ghost use Rattle.std.specs.Prelude.{◌≡◌, ℕ, cond, true, None, Some, IsSome, OnErr, IfOk, IfSome, IfNone};
 ghost use Rattle.std.specs.Option.{option_copied};
 ghost use Rattle.std.specs.FinMap as finite;
-ghost use Rattle.ft_locks.specs.EntryKeys.{key_at, spot_of, same_spot, is_spot, IsMoved};
+ghost use Rattle.ft_locks.specs.EntryKeys.{key_at, spot_of, same_spot, is_spot, IsMoved, UpdatesKeys};
 
 use ft_base::{Memory, Table};
 use ft_tree::Cell;
 use std::alloc::Global;
 
-/// For each directory that has entries in the table, their keys, in no order.
+/// The keys of the entries in the table, in no order, for each directory that has any.
 ///
-/// Each entry knows the place of its key, so to add a key or to take one out takes the time to hash
-/// the directory's number, however many keys there are.
+/// Each entry knows the place of its key. To add or to remove a key takes the time to hash the
+/// directory's number, however many keys there are.
 #[derive(Drop)]
 pub(crate) struct EntryKeys {
     alloc: Global,
@@ -19,7 +19,7 @@ pub(crate) struct EntryKeys {
 }
 
 impl EntryKeys {
-    /// No keys. Takes no memory.
+    /// Returns the lists without any keys. Takes no memory.
     pub(crate) fn new(alloc: Global) -> EntryKeys
         ensures { result.keys ≡ finite.empty }
     {
@@ -29,19 +29,24 @@ impl EntryKeys {
         }
     }
 
-    /// The keys of a directory's entries, if there are any.
+    /// Returns the keys of a directory's entries, if there are any.
     pub(crate) fn of(&self, dir: u64) -> Option<&Vec<usize>>
         ensures { option_copied result ≡ finite.get self.now.keys dir }
     {
         self.keys.get(dir)
     }
 
-    /// Adds the key of a cell that is an entry, and answers its place; another has none. Want of
-    /// memory changes nothing.
+    /// Adds the key of a cell that is an entry, and returns its place. For another cell it adds
+    /// nothing and returns 0. If there is not enough memory, nothing changes.
     pub(crate) fn note(&mut self, cell: &Cell, key: usize) -> Result<usize, Memory>
-        ensures free { IfOk result (λ place. (t : ℕ × ℕ) → is_spot (spot_of cell.now place) t ≡ true → key_at self.old.keys t.0 t.1 ≡ None) }
-        ensures ok { IfOk result (λ place. (t : ℕ × ℕ) → key_at self.new.keys t.0 t.1 ≡ cond (is_spot (spot_of cell.now place) t) (Some key) (key_at self.old.keys t.0 t.1)) }
-        ensures err { OnErr result ((t : ℕ × ℕ) → key_at self.new.keys t.0 t.1 ≡ key_at self.old.keys t.0 t.1) }
+        ensures free { IfOk result
+            (λ place. (t : ℕ × ℕ) → is_spot (spot_of cell.now place) t ≡ true
+            → key_at self.old.keys t.0 t.1 ≡ None) }
+        ensures ok { IfOk result
+            (λ place. UpdatesKeys self.old.keys self.new.keys (is_spot (spot_of cell.now place))
+            (Some key)) }
+        ensures err { OnErr result ((t : ℕ × ℕ)
+            → key_at self.new.keys t.0 t.1 ≡ key_at self.old.keys t.0 t.1) }
     {
         match cell {
             Cell::Entry(entry) => self.add(entry.dir, key),
@@ -49,12 +54,14 @@ impl EntryKeys {
         }
     }
 
-    /// Takes the key at a place of a directory's list out, and answers the key that stands there
-    /// from then on, if there is one. Takes no memory.
+    /// Removes the key at a place of a directory's list. Returns the key that moves into this
+    /// place, if one does. Takes no memory.
     pub(crate) fn remove(&mut self, dir: u64, place: usize) -> Option<usize>
         requires { IsSome (key_at self.old.keys dir place) }
-        ensures none { IfNone result ((t : ℕ × ℕ) → key_at self.new.keys t.0 t.1 ≡ cond (same_spot (dir, place) t) None (key_at self.old.keys t.0 t.1)) }
-        ensures moved { IfSome result (λ moved. IsMoved self.old.keys self.new.keys dir place moved) }
+        ensures none { IfNone result
+            (UpdatesKeys self.old.keys self.new.keys (same_spot (dir, place)) None) }
+        ensures moved { IfSome result
+            (λ moved. IsMoved self.old.keys self.new.keys dir place moved) }
     {
         let keys = self.keys.get_mut(dir)?;
         keys.swap_remove(place);
@@ -66,11 +73,14 @@ impl EntryKeys {
         moved
     }
 
-    /// Adds a key to a directory's list, and answers its place. Want of memory changes nothing.
+    /// Adds a key to a directory's list, and returns its place. If there is not enough memory,
+    /// nothing changes.
     fn add(&mut self, dir: u64, key: usize) -> Result<usize, Memory>
         ensures free { IfOk result (λ place. key_at self.old.keys dir place ≡ None) }
-        ensures ok { IfOk result (λ place. (t : ℕ × ℕ) → key_at self.new.keys t.0 t.1 ≡ cond (same_spot (dir, place) t) (Some key) (key_at self.old.keys t.0 t.1)) }
-        ensures err { OnErr result ((t : ℕ × ℕ) → key_at self.new.keys t.0 t.1 ≡ key_at self.old.keys t.0 t.1) }
+        ensures ok { IfOk result
+            (λ place. UpdatesKeys self.old.keys self.new.keys (same_spot (dir, place)) (Some key)) }
+        ensures err { OnErr result ((t : ℕ × ℕ)
+            → key_at self.new.keys t.0 t.1 ≡ key_at self.old.keys t.0 t.1) }
     {
         if let Some(keys) = self.keys.get_mut(dir) {
             let place = keys.len();

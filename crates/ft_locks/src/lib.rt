@@ -1,10 +1,11 @@
-//! The locks of transactions on cells: which transaction holds or retains which access, and who is
-//! in the way of a call.
+//! The locks of transactions on cells: which transaction holds or retains which access, and which
+//! transactions block a call.
 //!
-//! What a lock is, and what becomes of it, is said by `ft_moss`.
+//! The crate `ft_lock_rules` defines a lock and the changes to it.
 #![tactic(auto)]
 
 mod blocking;
+mod bulk_released;
 mod cell_index;
 mod cells;
 mod entry_keys;
@@ -12,5 +13,5 @@ mod holdings;
 mod listing;
 mod locks;
 
-pub use ft_moss::{LockKind, LockLine};
-pub use locks::{Locks, Survey};
+pub use ft_lock_rules::{LockKind, LockLine};
+pub use locks::{LockCheck, Locks};

@@ -1,16 +1,22 @@
 // The lock table.
-ghost use Rattle.std.specs.Prelude.{◌≡◌, ◌≢◌, ◌<◌, ◌≤◌, ℕ, take, length, true, OnOk, OnErr, IfOk, IfSome, IfNone};
+ghost use Rattle.std.specs.Prelude.{◌≡◌, ◌≢◌, ◌<◌, ◌≤◌, ℕ, take, length, true, [], OnOk, OnErr, IfOk, IfSome, IfNone};
+ghost use Rattle.std.specs.FinMap as finite;
 ghost use Rattle.std.specs.FinSet as set;
-ghost use Rattle.ft_moss.specs.Locks.{no_locks, is_locked, is_let_go, is_opened, AreBlockers, AreGranted, AreInherited, AreListed, AreReleased};
-ghost use Rattle.ft_moss.specs.Rules.{is_strict};
-ghost use Rattle.ft_moss.specs.Surveys.{HasItsCellsAlone, HasNoHolderAbove};
+ghost use Rattle.ft_base.specs.OwnedLists.{list_in, IsOpen};
+ghost use Rattle.ft_lock_rules.specs.Holdings.{AreSingle};
+ghost use Rattle.ft_lock_rules.specs.Seen.{table_of, IsKept, locks_in};
+ghost use Rattle.ft_locks.specs.BulkReleased.{left_in, with_bulk, IsTaken};
+ghost use Rattle.ft_lock_rules.specs.Locks.{no_locks, is_locked, is_released, is_opened, AreBlockers, AreGranted, AreInherited, AreListed, AreReleased};
+ghost use Rattle.ft_lock_rules.specs.Rules.{is_strict};
+ghost use Rattle.ft_lock_rules.specs.Surveys.{HasItsCellsAlone, HasNoHolderAbove};
 
-use crate::blocking::{Asker, note_access, noted, survey_access};
-use crate::cells::LET_GO;
+use crate::blocking::{Asker, check_access, note_access, sorted_owners};
+use crate::bulk_released::BulkReleased;
+use crate::cells::RELEASED;
 use crate::holdings::{Dropped, Holdings};
 use ft_base::{Memory, Table};
 use ft_forest::{Forest, TxnId};
-use ft_moss::{LockLine, Marks, Rule};
+use ft_lock_rules::{LockLine, LockModes, Rule};
 use ft_posix::Access;
 use ft_tree::{Cell, Keeps};
 use std::alloc::Global;
@@ -18,87 +24,108 @@ use std::marker::Model;
 
 /// The locks of transactions on cells.
 ///
-/// It is seen as the set of its locks in their order (`LockLine`), with the cells that were let go
-/// and the transactions that are open. To look at a cell takes the time to hash it; what is done to
-/// one transaction takes the time of its own locks, however many others there are, on the same
-/// cells too. Who asks to read a cell looks at none that came to read it after its last writer; who
-/// asks to write it looks at all that have locks on it.
+/// Its model is the set of its locks in their order (`LockLine`), with the released cells and the
+/// open transactions.
+///
+/// To look at a cell takes the time to hash it. A change to one transaction takes the time of its
+/// own locks, however many others there are, even on the same cells. A request to read a cell skips
+/// the owners that came to read it after its last writer. A request to write it looks at all owners
+/// with locks on it.
 pub struct Locks {
     alloc: Global,
     holdings: Holdings,
+    /// Cells that were released all at once and are not reported yet, with the owners that had
+    /// places on them.
+    bulk: BulkReleased,
 }
 
 impl Drop for Locks {
+    /// Drops the parts of the table.
     fn drop(self) {
         let Locks {
             alloc: _,
             holdings: _,
+            bulk: _,
         } = self;
     }
 }
 
-/// What one look at the cells of a call tells.
+/// The result of one look at the cells of a call.
 #[derive(Drop)]
-pub struct Survey {
-    /// Who is in the way of it, in rising order and each once.
+pub struct LockCheck {
+    /// The transactions that block it, in rising order and each once.
     pub blockers: Vec<TxnId>,
-    /// How many of its accesses, from the first on, need no grant: the asker holds their locks.
+    /// The number of its accesses, from the first on, that need no grant: the asker holds their
+    /// locks.
     pub held: usize,
 }
 
 impl Model for Locks {
-    ghost use Rattle.ft_moss.specs.Locks.{LockTable, coded_table};
-    ghost use Rattle.ft_moss.specs.Seen.{table_of, IsKept};
+    ghost use Rattle.ft_lock_rules.specs.Locks.{LockTable, coded_table};
+    ghost use Rattle.ft_lock_rules.specs.Holdings.{AreSingle};
+    ghost use Rattle.ft_lock_rules.specs.Seen.{table_of, IsKept};
+    ghost use Rattle.ft_locks.specs.BulkReleased.{left_in, with_bulk};
 
     ghost Value = { LockTable };
 
     ghost coded = { coded_table };
 
-    ghost view = { λ a. table_of a.holdings.cells a.holdings.lists };
+    ghost view = { λ a. with_bulk a.bulk (table_of a.holdings.cells a.holdings.lists) };
 
-    ghost invariant = { λ a. IsKept a.holdings.cells a.holdings.lists };
+    ghost invariant = { λ a. IsKept a.holdings.cells a.holdings.lists
+        × AreSingle (left_in a.bulk) };
 }
 
 impl Locks {
-    /// No lock. Takes no memory.
+    /// Returns a table without locks. Takes no memory.
     pub fn new(alloc: Global) -> Locks
         ensures { result ≡ no_locks }
     {
         let mut holdings = Holdings::new(alloc);
         holdings.open_zero();
-        Locks { alloc, holdings }
+        Locks {
+            alloc,
+            holdings,
+            bulk: BulkReleased::new(alloc),
+        }
     }
 
-    /// Takes a seed for the hashes by which cells are found, where no transaction has a lock and no
-    /// cell was let go. Nothing is seen of it: by a seed that nobody knows, cells can't be chosen
-    /// whose hashes are the same. Until one is taken it is 0.
+    /// Sets the seed for the hashes by which cells are found, if no transaction has a lock and no
+    /// released cell is left. The seed is 0 until it is set.
+    ///
+    /// Callers see no difference. If nobody knows the seed, nobody can choose cells with equal
+    /// hashes.
     pub fn seed(&mut self, seed: u64)
         ensures { self.new ≡ self.old }
     {
         self.holdings.seed(seed);
     }
 
-    /// Whether a transaction is open: it was opened, and neither released nor its locks inherited
-    /// since.
+    /// Returns whether a transaction is open: it was opened, and since then it was not released and
+    /// its locks were not inherited.
     pub fn is_open(&self, txn: TxnId) -> bool
         ensures { result ≡ is_opened self.now txn }
     {
-        txn.0 != LET_GO && self.holdings.is_open(txn.0)
+        txn.0 != RELEASED && self.holdings.is_open(txn.0)
     }
 
-    /// Opens a transaction, so that it may be given locks: from its begin until it is released, or
-    /// its locks are inherited. One that is open stays so. Want of memory changes nothing.
+    /// Opens a transaction, so that it may be given locks. It is open from its begin until it is
+    /// released or its locks are inherited. One that is already open stays open. If there is not
+    /// enough memory, nothing changes.
     pub fn open(&mut self, txn: TxnId) -> Result<(), Memory>
         requires { 0 < txn }
-        ensures ok { OnOk result (self.new ≡ record self.old { opened = set.insert self.old.opened txn }) }
+        ensures ok { OnOk result (self.new
+            ≡ record self.old { opened = set.insert self.old.opened txn }) }
         ensures err { OnErr result (self.new ≡ self.old) }
     {
         self.holdings.open(txn.0)
     }
 
-    /// Who is in the way of a call with these accesses: the owners of conflicting locks that are
-    /// neither the asker nor an ancestor of it, and by `Rule::Moss` the ancestors of it that hold
-    /// one too, in rising order and each once.
+    /// Returns the transactions that block a call with these accesses, in rising order and each
+    /// once.
+    ///
+    /// They are the owners of conflicting locks, except the asker and its ancestors. By
+    /// `Rule::Moss` the ancestors that hold a conflicting lock are blockers too.
     pub fn blockers(
         &self,
         forest: &Forest,
@@ -106,54 +133,57 @@ impl Locks {
         accesses: &[Access],
         rule: Rule,
     ) -> Result<Vec<TxnId>, Memory>
-        ensures { IfOk result (λ blockers. AreBlockers rule self.now forest.now txn accesses.now blockers.items) }
+        ensures { IfOk result (λ blockers. AreBlockers rule self.now forest.now txn accesses.now
+            blockers.items) }
     {
         let mut found = Table::new(self.alloc);
         for access in accesses {
             let asker = Asker { txn, rule };
             note_access(&self.holdings, &mut found, forest, &asker, access)?;
         }
-        noted(self.alloc, &found)
+        sorted_owners(self.alloc, &found)
     }
 
-    /// Who is in the way of a call with these accesses by a rule, and for how many of them, from
-    /// the first on, the asker holds the locks already.
+    /// Returns the transactions that block a call with these accesses by a rule. Also returns for
+    /// how many of the accesses, from the first on, the asker already holds the locks.
     ///
-    /// A cell on which a lock of the asker's own covers the access is looked at once, and not those
-    /// that overlap it: nobody but an ancestor has a lock there that conflicts, and where all calls
-    /// are granted by `Rule::Moss` no ancestor holds one.
-    pub fn survey(
+    /// If a lock of the asker's own covers an access, its cell is looked at once, and the cells
+    /// that overlap it are not. Only an ancestor can have a lock there that conflicts. If all calls
+    /// are granted by `Rule::Moss`, no ancestor holds one.
+    pub fn check(
         &self,
         forest: &Forest,
         txn: TxnId,
         accesses: &[Access],
         rule: Rule,
-    ) -> Result<Survey, Memory>
+    ) -> Result<LockCheck, Memory>
         requires alone { HasItsCellsAlone self.now forest.now txn }
         requires no_holder { is_strict rule ≡ true → HasNoHolderAbove self.now forest.now }
-        ensures blockers { IfOk result (λ survey. AreBlockers rule self.now forest.now txn accesses.now survey.blockers.items) }
-        ensures within { IfOk result (λ survey. survey.held ≤ length accesses.now) }
-        ensures held { IfOk result (λ survey. AreGranted self.now self.now txn (take survey.held accesses.now)) }
+        ensures blockers { IfOk result
+            (λ check. AreBlockers rule self.now forest.now txn accesses.now check.blockers.items) }
+        ensures within { IfOk result (λ check. check.held ≤ length accesses.now) }
+        ensures held { IfOk result
+            (λ check. AreGranted self.now self.now txn (take check.held accesses.now)) }
     {
         let mut found = Table::new(self.alloc);
         let mut held = 0;
         let mut has_all = true;
         for access in accesses {
             let asker = Asker { txn, rule };
-            let is_held = survey_access(&self.holdings, &mut found, forest, &asker, access)?;
+            let is_held = check_access(&self.holdings, &mut found, forest, &asker, access)?;
             has_all &= is_held;
             if has_all {
                 held += 1;
             }
         }
-        let blockers = noted(self.alloc, &found)?;
-        Ok(Survey { blockers, held })
+        let blockers = sorted_owners(self.alloc, &found)?;
+        Ok(LockCheck { blockers, held })
     }
 
-    /// Gives a transaction the locks of these accesses, which it holds from then on. Want of memory
-    /// changes nothing.
+    /// Gives a transaction the locks of these accesses, which it then holds. If there is not enough
+    /// memory, nothing changes.
     ///
-    /// An access whose lock it has already costs a look at its cell, and no memory.
+    /// An access whose lock it already has costs a look at its cell, and no memory.
     pub fn grant(&mut self, txn: TxnId, accesses: &[Access]) -> Result<(), Memory>
         requires { is_opened self.old txn ≡ true }
         ensures ok { OnOk result (AreGranted self.old self.new txn accesses.now) }
@@ -166,8 +196,8 @@ impl Locks {
         Ok(())
     }
 
-    /// Gives what a child held or retained to its parent, which retains it in the same mode, and
-    /// closes the child (Moss 1981, commit of a subtransaction). Takes no memory.
+    /// Hands the locks that a child held or retained to its parent and closes the child (Moss 1981,
+    /// commit of a subtransaction). The parent retains them in the same mode. Takes no memory.
     pub fn inherit(&mut self, child: TxnId, parent: TxnId)
         requires child { is_opened self.old child ≡ true }
         requires parent { is_opened self.old parent ≡ true }
@@ -179,16 +209,16 @@ impl Locks {
     }
 
     /// Drops a transaction's locks and closes it (Moss 1981, commit of a top-level transaction, and
-    /// abort). A cell that nobody has locked then is let go. Takes no memory.
+    /// abort). A cell that was locked and no longer is becomes a released cell. Takes no memory.
     pub fn release(&mut self, txn: TxnId)
         requires { is_opened self.old txn ≡ true }
         ensures { AreReleased self.old self.new txn }
     {
-        self.holdings.hand_over(txn.0, LET_GO);
+        release_places(&mut self.holdings, &mut self.bulk, txn.0);
         self.holdings.close(txn.0);
     }
 
-    /// The locks in their order. Takes the time to sort them.
+    /// Returns the locks in their order. Takes the time to sort them.
     pub fn lines(&self) -> Result<Vec<LockLine>, Memory>
         ensures { IfOk result (λ lines. AreListed self.now lines.items) }
     {
@@ -198,31 +228,74 @@ impl Locks {
         Ok(lines)
     }
 
-    /// Takes out a cell that was let go and that nobody has locked since, where there is one, so
-    /// that it is told once. Takes no memory.
-    pub fn take_let_go(&mut self) -> Option<Cell>
-        ensures cell { IfSome result (λ cell. is_let_go self.old cell ≡ true) }
-        ensures taken { IfSome result (λ cell. self.new ≡ record self.old { let_go = set.remove self.old.let_go cell }) }
-        ensures none { IfNone result ((self.old.let_go ≡ set.empty) × (self.new ≡ self.old)) }
+    /// Removes and returns a cell that was released and has not been locked since, if there is one,
+    /// so that it is reported once. Takes no memory.
+    pub fn take_released(&mut self) -> Option<Cell>
+        ensures cell { IfSome result (λ cell. is_released self.old cell ≡ true) }
+        ensures taken { IfSome result
+            (λ cell. self.new ≡ record self.old {
+              released_cells = set.remove
+                  self.old.released_cells cell;
+            }) }
+        ensures none { IfNone result ((self.old.released_cells ≡ set.empty)
+            × (self.new ≡ self.old)) }
     {
-        while let Some(dropped) = self.holdings.drop_front(LET_GO) {
-            if dropped.freed.is_some() {
-                return dropped.freed;
-            }
+        let told = self.bulk.take(&self.holdings);
+        if told.is_some() {
+            return told;
         }
-        None
+        take_listed(&mut self.holdings)
     }
 }
 
+/// Releases the places of an owner. They are released all at once if `bulk` is empty and
+/// `Holdings::give_up` succeeds, and otherwise one by one. Takes no memory.
+fn release_places(holdings: &mut Holdings, bulk: &mut BulkReleased, owner: u64)
+    requires kept { IsKept holdings.old.cells holdings.old.lists }
+    requires there { IsOpen holdings.old.lists owner }
+    requires apart { owner ≢ 0 }
+    ensures kept { IsKept holdings.new.cells (finite.remove holdings.new.lists owner) }
+    ensures list { list_in holdings.new.lists owner ≡ [] }
+    ensures single { AreSingle (left_in bulk.old) → AreSingle (left_in bulk.new) }
+    ensures released { AreReleased (with_bulk bulk.old (locks_in holdings.old))
+        (with_bulk bulk.new (table_of holdings.new.cells (finite.remove holdings.new.lists owner)))
+        owner }
+{
+    if bulk.is_empty() && holdings.give_up(owner, bulk) {
+        return;
+    }
+    holdings.hand_over(owner, RELEASED);
+}
+
+/// Removes and returns one of the cells that were released one by one and have not been locked
+/// since, if there is one. Takes no memory.
+fn take_listed(holdings: &mut Holdings) -> Option<Cell>
+    requires { IsKept holdings.old.cells holdings.old.lists }
+    ensures kept { IsKept holdings.new.cells holdings.new.lists }
+    ensures cell { IfSome result (λ cell. is_released (locks_in holdings.old) cell ≡ true) }
+    ensures taken { IfSome result
+        (λ cell. IsTaken (locks_in holdings.old) (locks_in holdings.new) cell) }
+    ensures none { IfNone result (((locks_in holdings.old).released_cells ≡ set.empty)
+        × (table_of holdings.new.cells holdings.new.lists ≡ locks_in holdings.old)) }
+{
+    while let Some(dropped) = holdings.drop_front(RELEASED) {
+        if dropped.freed.is_some() {
+            return dropped.freed;
+        }
+    }
+    None
+}
+
 impl Keeps for Locks {
-    ghost use Rattle.ft_moss.specs.Locks.{LockTable, is_locked};
+    ghost use Rattle.ft_lock_rules.specs.Locks.{LockTable, is_locked};
 
     ghost kept = { is_locked };
 
-    ghost let_go = { λ (t : LockTable). t.let_go };
+    ghost released_cells = { λ (t : LockTable). t.released_cells };
 
-    ghost all_told = { λ (t : LockTable). record t { let_go = set.empty } };
+    ghost all_told = { λ (t : LockTable). record t { released_cells = set.empty } };
 
+    /// Returns whether some transaction has a lock on the cell.
     fn keeps(&self, cell: &Cell) -> bool {
         match self.holdings.holders(cell) {
             Some(holders) => holders.is_locked(),
@@ -230,7 +303,8 @@ impl Keeps for Locks {
         }
     }
 
-    fn take_let_go(&mut self) -> Option<Cell> {
-        Locks::take_let_go(self)
+    /// Removes and returns a released cell, if there is one, as `Locks::take_released` does.
+    fn take_released(&mut self) -> Option<Cell> {
+        Locks::take_released(self)
     }
 }

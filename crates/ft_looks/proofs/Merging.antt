@@ -17,7 +17,7 @@ use Rattle.ft_posix.specs.declared.call.Mode.{Mode}
 use Rattle.ft_posix.specs.declared.call.Mode.TheVariants.{Read}
 use Rattle.ft_posix.specs.declared.call.Access.{Access}
 use Rattle.ft_posix.specs.Accesses.{Modes, listed, as_entries, AreInOrder}
-use Rattle.ft_posix.proofs.Conjunction.{both}
+use Rattle.ft_cells.proofs.Conjunction.{both}
 use Rattle.ft_posix.proofs.Placing.{access}
 use Rattle.ft_looks.specs.Notes.{with_notes}
 use Rattle.ft_looks.proofs.Noted.{in_order-listed}

@@ -13,7 +13,7 @@ use Rattle.ft_cells.specs.CellOrder.{cell_cmp, cell_cmp_total, cell_cmp_exact}
 use Rattle.ft_posix.specs.declared.call.Mode.{Mode}
 use Rattle.ft_posix.specs.declared.call.Access.{Access}
 use Rattle.ft_posix.specs.Accesses.{Modes, listed, as_entries, AreInOrder, place_in, is_noted}
-use Rattle.ft_posix.proofs.Conjunction.{first, second}
+use Rattle.ft_cells.proofs.Conjunction.{first, second}
 use Rattle.ft_posix.proofs.Placing.{access, told, IsFoundAt, note-again, note-new}
 use Rattle.ft_looks.specs.Notes.{with_notes, AreInOrderIf}
 use Rattle.ft_looks.proofs.Searching.{less}

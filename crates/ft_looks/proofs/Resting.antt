@@ -7,7 +7,7 @@ use Rattle.ft_path.specs.declared.errno.Errno.{Errno}
 use Rattle.ft_path.specs.declared.path.Parts.{Parts}
 use Rattle.ft_path.specs.FilePath.{components}
 use Rattle.ft_path.specs.Judged.{IsBehind}
-use Rattle.ft_cells.specs.declared.node.Spot.{Spot}
+use Rattle.ft_cells.specs.declared.node.PathEnd.{PathEnd}
 use Rattle.ft_cells.specs.declared.cell.Cell.{Cell}
 use Rattle.ft_cells.specs.Cells.{Cells}
 use Rattle.ft_cells.specs.Looks.{View, answer, looked_at, all_noted}
@@ -17,11 +17,11 @@ use Rattle.ft_tree.specs.Views.{view_of}
 use Rattle.ft_tree.specs.Walk.{walk_from, walk}
 use Rattle.ft_tree.specs.Fronts.{Leads as LeadsThere, front_entries, front_end}
 use Rattle.ft_tree.proofs.Fronting.{walk-answer, walk-looked}
-use Rattle.ft_posix.specs.declared.intent.Stop.{Stop}
-use Rattle.ft_posix.specs.declared.intent.Stop.TheVariants.{Memory as NoMemory, Errno as Fails}
+use Rattle.ft_posix.specs.declared.intent.CallError.{CallError}
+use Rattle.ft_posix.specs.declared.intent.CallError.TheVariants.{Memory as NoMemory, Errno as Fails}
 use Rattle.ft_posix.specs.Accesses.{Modes, with_looks, listed}
 use Rattle.ft_posix.specs.Looking.{Looking, noted_at, noted}
-use Rattle.ft_posix.specs.Comes.{Leads}
+use Rattle.ft_posix.specs.Computes.{Resolves}
 use Rattle.ft_posix.proofs.Recorded.{all_noted-is}
 use Rattle.ft_posix.specs.declared.call.Mode.TheVariants.{Read as ReadMode}
 use Rattle.ft_posix.specs.declared.call.Access.{Access}
@@ -32,7 +32,7 @@ use Rattle.ft_posix.proofs.Fronted.{looks-behind, looks-insert, reads-insert, bu
 use Rattle.ft_looks.specs.Rests.{IsRest}
 
 -- where a walk from a directory leads that notes each cell which it reads
-pub leads_from : (old new : Looking) (follow : Bool) (dir : ℕ) (read names : List (List ℕ)) (slash trailing : Bool) → read ≡ names → slash ≡ trailing → (end told : Result Spot Errno) → end ≡ told
+pub leads_from : (old new : Looking) (follow : Bool) (dir : ℕ) (read names : List (List ℕ)) (slash trailing : Bool) → read ≡ names → slash ≡ trailing → (end told : Result PathEnd Errno) → end ≡ told
     → end ≡ answer (walk_from follow dir read slash) (view_of old.cells) → new ≡ all_noted noted_at old (looked_at (walk_from follow dir read slash) (view_of old.cells))
     → (told ≡ answer (walk_from follow dir names trailing) (view_of old.cells)) × (new ≡ noted old (walk_from follow dir names trailing))
 leads_from old new follow dir read names slash trailing same as_slash end told is led looks = (
@@ -65,7 +65,7 @@ rest_is looking modes front leads entries are path rest behind dir is =
     }
 
 -- who walks the rest has walked the path
-pub leads_rest : (old new : Looking) (path rest : Parts) (dir : ℕ) (follow : Bool) → IsRest old path dir rest → (r : Result Spot Stop) → Leads old (walk_from follow dir rest.names rest.trailing) new r → Leads old (walk follow path.names path.trailing) new r
+pub leads_rest : (old new : Looking) (path rest : Parts) (dir : ℕ) (follow : Bool) → IsRest old path dir rest → (r : Result PathEnd CallError) → Resolves old (walk_from follow dir rest.names rest.trailing) new r → Resolves old (walk follow path.names path.trailing) new r
 leads_rest old new path rest dir follow is r h = by_result r h
   where
     same : noted old (walk_from follow dir rest.names rest.trailing) ≡ noted old (walk follow path.names path.trailing)
@@ -73,7 +73,7 @@ leads_rest old new path rest dir follow is r h = by_result r h
         let modes = sym (is.seen (looked_at (walk_from follow dir rest.names rest.trailing) (view_of old.cells))) ∙ ap (with_looks old.modes) (sym (is.looked follow)) in
         ap (λ (m : Modes). let l : Looking = record { cells = old.cells; modes = m; front = old.front } in l) modes
 
-    by_result : (r : Result Spot Stop) → Leads old (walk_from follow dir rest.names rest.trailing) new r → Leads old (walk follow path.names path.trailing) new r
+    by_result : (r : Result PathEnd CallError) → Resolves old (walk_from follow dir rest.names rest.trailing) new r → Resolves old (walk follow path.names path.trailing) new r
     by_result (Ok spot) h = (h.0 ∙ sym (is.end follow), h.1 ∙ same)
     by_result (Err (Fails e)) h = (h.0 ∙ sym (is.end follow), h.1 ∙ same)
     by_result (Err NoMemory) h = tt

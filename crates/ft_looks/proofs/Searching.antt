@@ -10,7 +10,7 @@ use Rattle.ft_cells.specs.declared.cell.Cell.{Cell}
 use Rattle.ft_cells.specs.CellOrder.{cell_cmp, cell_cmp_total}
 use Rattle.ft_posix.specs.declared.call.Access.{Access}
 use Rattle.ft_posix.specs.Accesses.{as_entries, AreInOrder, place_in, is_noted}
-use Rattle.ft_posix.proofs.Conjunction.{first, second}
+use Rattle.ft_cells.proofs.Conjunction.{first, second}
 use Rattle.ft_posix.proofs.Placing.{place-within, noted-within}
 
 pub less : (o : Ordering) → T (is_lt o) → o ≡ Less

@@ -1,3 +1,5 @@
-pub mod Notes
+-- What callers cite.
 pub mod Sizes
+-- What the crate keeps true of itself.
+pub mod Notes
 pub mod Rests

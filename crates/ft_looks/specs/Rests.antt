@@ -1,4 +1,4 @@
--- What of a path is behind a front that leads to a directory.
+-- The rest of a path after a front that leads to a directory.
 use Rattle.std.specs.Prelude.{◌≡◌, ℕ, Bool, List, ◌++◌}
 use Rattle.ft_path.specs.declared.path.Parts.{Parts}
 use Rattle.ft_cells.specs.declared.cell.Cell.{Cell}
@@ -8,8 +8,8 @@ use Rattle.ft_tree.specs.Walk.{walk_from, walk}
 use Rattle.ft_posix.specs.Accesses.{with_looks}
 use Rattle.ft_posix.specs.Looking.{Looking}
 
--- From a directory on the rest leads where the path does from the root. What is looked at besides is
--- the front, which is noted already.
+-- From the directory on, the rest leads to where the path leads from the root. The path also looks
+-- at the front, which is noted already.
 pub record IsRest (looking : Looking) (path : Parts) (dir : ℕ) (rest : Parts) : Type 0 where
   pub end : (follow : Bool) → answer (walk follow path.names path.trailing) (view_of looking.cells) ≡ answer (walk_from follow dir rest.names rest.trailing) (view_of looking.cells)
   pub looked : (follow : Bool) → looked_at (walk follow path.names path.trailing) (view_of looking.cells) ≡ looking.front ++ looked_at (walk_from follow dir rest.names rest.trailing) (view_of looking.cells)

@@ -1,10 +1,10 @@
-//! A tree that is looked at on behalf of a call, cell by cell, and which of its cells were.
+//! A tree that a call looks at, cell by cell, and a record of the cells that were looked at.
 //!
-//! What is looked at, and what is then set, is what the call accesses: the cells that its
-//! transaction locks.
+//! The cells that are looked at, and those that are then set, are the accesses of the call. Its
+//! transaction locks them.
 #![tactic(auto)]
 
+mod access_set;
 mod look;
-mod touched;
 
 pub use look::{Look, text_parts};

@@ -1,7 +1,7 @@
 -- A loose box owns what a box of the same pointer and value owns, in the same machine value.
 use denote.RattleType.{RattleType}
 use Rattle.std_alloc.proofs.BoxSteps.Form as box
-use Rattle.ft_loose.specs.contracts.Loose as loose
+use Rattle.ft_loose.specs.contracts.RawBox as loose
 
 module _ (E : box.Bx) where
   -- the type of a loose box

@@ -1,3 +1,4 @@
+-- What callers cite.
 pub mod Values
 pub mod Lines
 pub mod Fronts

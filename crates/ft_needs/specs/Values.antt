@@ -4,7 +4,7 @@ use Rattle.std.specs.Prelude.{◌==◌, ◌-◌, ◌*◌, ◌^◌, ℕ, Bool, na
 use Rattle.std.specs.Cmp.Lexicographic.{pointwise}
 use Rattle.std.specs.Fmt.{decimal}
 use Rattle.std.specs.Str.{bytes_eq}
-use Rattle.ft_words.specs.Spelling.{number_of}
+use Rattle.ft_words.specs.Spelling.{parse_u64}
 
 -- a number that is not beyond the greatest
 abbrev pub up_to : ℕ → ℕ → Option ℕ
@@ -12,7 +12,7 @@ up_to most number = if nat_le number most then Some number else None
 
 -- the limit that a text gives, if this is the greatest
 abbrev pub limit_of : List ℕ → ℕ → Option ℕ
-limit_of text most = if bytes_eq text (codes "none") then Some most else option_and_then (up_to most) (number_of text)
+limit_of text most = if bytes_eq text (codes "none") then Some most else option_and_then (up_to most) (parse_u64 text)
 
 -- ---- sizes
 
@@ -34,7 +34,7 @@ parts_of text =
 
 -- so many of a unit, if that is not beyond the greatest
 abbrev pub units_of : ℕ → List ℕ × ℕ → Option ℕ
-units_of most parts = option_and_then (λ number. up_to most (number * parts.1)) (number_of parts.0)
+units_of most parts = option_and_then (λ number. up_to most (number * parts.1)) (parse_u64 parts.0)
 
 -- the size that a text gives, if this is the greatest
 abbrev pub size_of : List ℕ → ℕ → Option ℕ

@@ -13,10 +13,10 @@ use std::io::{self, ErrorKind, Read};
 /// How many bytes of a line are looked at for what a script needs, or a few more.
 pub const LONGEST_NEEDS: usize = 4_096;
 
-// How many bytes are read at once.
+/// How many bytes are read at once.
 const PIECE: usize = 512;
 
-// The most reads that are made.
+/// The most reads that are made.
 const MOST_READS: u32 = 100_000_000;
 
 /// Returns the limits that are at least these, and at least those that a script needs by its first
@@ -31,7 +31,8 @@ pub fn limits_for<R: Read>(
     script: &mut R,
 ) -> io::Result<(Limits, Vec<u8>)>
     ensures limits { IfOk result (λ begun. begun.0 ≡ raised_for limits begun.1.items) }
-    ensures read { IfOk result (λ begun. Consumes (R.remaining script.old) (R.remaining script.new) begun.1.items) }
+    ensures read { IfOk result
+        (λ begun. Consumes (R.remaining script.old) (R.remaining script.new) begun.1.items) }
     ensures front { IfOk result (λ begun. IsFront begun.1.items (R.remaining script.new)) }
 {
     let front = front_of(alloc, script)?;
@@ -39,9 +40,10 @@ pub fn limits_for<R: Read>(
     Ok((limits, front))
 }
 
-// The front of a script.
+/// Reads the front of a script, and returns it.
 fn front_of<R: Read>(alloc: Global, script: &mut R) -> io::Result<Vec<u8>>
-    ensures read { IfOk result (λ front. Consumes (R.remaining script.old) (R.remaining script.new) front.items) }
+    ensures read { IfOk result
+        (λ front. Consumes (R.remaining script.old) (R.remaining script.new) front.items) }
     ensures front { IfOk result (λ front. IsFront front.items (R.remaining script.new)) }
 {
     let mut front = Vec::new(alloc);
@@ -60,7 +62,7 @@ fn front_of<R: Read>(alloc: Global, script: &mut R) -> io::Result<Vec<u8>>
     Err(io::Error::from(ErrorKind::Interrupted))
 }
 
-// Whether the first line of a text has its line feed.
+/// Returns whether the first line of a text has its line feed.
 fn has_line(text: &[u8]) -> bool
     ensures { result ≡ true → HasLine text.now }
 {

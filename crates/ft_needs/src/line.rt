@@ -32,7 +32,7 @@ pub fn raised_for(limits: Limits, script: &[u8]) -> Limits
     }
 }
 
-// At least what flags with their values ask for.
+/// Returns these limits, raised to at least what flags with their values request.
 fn with_flags(words: Words<'_>, limits: Limits) -> Option<Limits>
     ensures { result ≡ with_flags words.entry limits }
 {
@@ -45,7 +45,8 @@ fn with_flags(words: Words<'_>, limits: Limits) -> Option<Limits>
     Some(limits)
 }
 
-// The same of one flag.
+/// Returns these limits, raised to at least what one flag with its value requests. Returns `None`
+/// if there is no such flag, or if its value is no limit.
 fn with_flag(flag: &[u8], value: &[u8], limits: Limits) -> Option<Limits>
     ensures { result ≡ with_flag flag.now value.now limits }
 {
@@ -82,7 +83,7 @@ impl fmt::Display for NeedsLine<'_> {
     }
 }
 
-// The flags that are needed.
+/// The flags that are needed.
 #[derive(Clone, Copy)]
 struct Flags<'a>(&'a Limits);
 
@@ -101,7 +102,7 @@ impl fmt::Display for Flags<'_> {
     }
 }
 
-// A size, in the greatest unit of which it is a whole number.
+/// A size, in the greatest unit of which it is a multiple.
 #[derive(Clone, Copy)]
 struct Size(u64);
 

@@ -2,7 +2,7 @@
 ghost use Rattle.std.specs.Prelude.{◌≡◌};
 ghost use Rattle.ft_needs.specs.Values.{ends_in, front_of, limit_of, parts_of, size_of, up_to};
 
-use ft_words::number_of;
+use ft_words::parse_u64;
 
 /// Returns the limit that a text gives: a number, or `none`, which means the greatest one. There is
 /// none if the number is beyond that, or the text is no number.
@@ -12,7 +12,7 @@ pub fn limit_of(text: &[u8], most: u64) -> Option<u64>
     if text == b"none".as_slice() {
         return Some(most);
     }
-    up_to(most, number_of(text)?)
+    up_to(most, parse_u64(text)?)
 }
 
 /// Returns the same of a size, which may end in `K`, `M` or `G`, for 2^10, 2^20 or 2^30 bytes.
@@ -23,17 +23,17 @@ pub fn size_of(text: &[u8], most: u64) -> Option<u64>
         return Some(most);
     }
     let (digits, unit) = parts_of(text);
-    up_to(most, number_of(digits)?.checked_mul(unit)?)
+    up_to(most, parse_u64(digits)?.checked_mul(unit)?)
 }
 
-// A number that is not beyond the greatest.
+/// Returns a number, if it is not above the greatest.
 fn up_to(most: u64, number: u64) -> Option<u64>
     ensures { result ≡ up_to most number }
 {
     if number <= most { Some(number) } else { None }
 }
 
-// The digits of a size, and what they count in.
+/// Returns the digits of a size, and the unit that they count in.
 fn parts_of(text: &[u8]) -> (&[u8], u64)
     ensures { (result.0.now, result.1) ≡ parts_of text.now }
 {

@@ -3,7 +3,7 @@ use Rattle.std.specs.Prelude.{ℕ, List, codes}
 use Rattle.ft_path.specs.declared.errno.Errno.{Errno}
 use Rattle.ft_path.specs.declared.errno.Errno.TheVariants.{ENOENT, ENOTDIR, EEXIST, EISDIR, ENOTEMPTY, EINVAL, EPERM, EBUSY, EMLINK, ENAMETOOLONG, EBADF, EFBIG, EOVERFLOW, ELOOP}
 
--- the bytes of its name, as `ENOENT`
+-- the bytes of the name, for example `ENOENT`
 abbrev pub errno_name : Errno → List ℕ
 errno_name ENOENT = codes "ENOENT"
 errno_name ENOTDIR = codes "ENOTDIR"

@@ -1,8 +1,8 @@
 -- The text of a path (POSIX.1-2017, Base Definitions, 3.271 Pathname): filenames separated by
--- slashes, with slashes before and behind them as one likes. Several slashes in a row are as one;
--- that two leading ones are too is a rule of this project, where POSIX leaves them open.
--- What is wrong with a text is decided before anything is looked up (4.13 Pathname Resolution): a
--- null pathname does not resolve, and there are the limits {PATH_MAX} and {NAME_MAX} (limits.h).
+-- slashes, with any slashes before and after them. Several slashes in a row count as one. POSIX
+-- leaves two leading slashes open: that they count as one is a rule of this project. The faults of
+-- a text are found before any lookup (4.13 Pathname Resolution): a null pathname does not resolve,
+-- and the limits are {PATH_MAX} and {NAME_MAX} (limits.h).
 use Rattle.std.specs.Prelude.{◌≡◌, ℕ, Bool, false, if◌then◌else◌, ◌==◌, ◌&&◌, ◌-◌, slice_get, nat_lt, nat_eq, List, [], ◌∷◌, length, filter, Result, Ok, Err, IsOk, Option, None, Some}
 use Rattle.std.specs.Borrow.{Bor}
 use Rattle.std.specs.List.{list_any, slice_split, ends_with}
@@ -16,17 +16,17 @@ use Rattle.ft_path.specs.declared.path.LastName.{LastName}
 use Rattle.ft_path.specs.declared.path.LastName.TheVariants.{Absent, Dot, DotDot, Plain}
 use Rattle.ft_path.specs.Name.{slash, has_nul, is_dot, is_dot_dot}
 
--- a piece between slashes counts when it is not empty
+-- a piece between slashes is a component if it is not empty
 abbrev pub is_component : List ℕ → Bool
 is_component piece = nat_lt 0 (length piece)
 
--- the pieces that are left, where there may be no text any more
+-- the pieces that are left: none if no text is left
 abbrev pub pieces_left : Option (Bor (List ℕ)) → List (List ℕ)
 pieces_left None = []
 pieces_left (Some text) = slice_split (λ byte. byte == slash) text.now
 
--- the components of a path, in order (3.272 Pathname Component): the pieces between slashes,
--- empty ones left out
+-- the components of a path, in order (3.272 Pathname Component): the pieces between slashes, except
+-- the empty ones
 abbrev pub components : List ℕ → List (List ℕ)
 components bytes = filter is_component (slice_split (λ byte. byte == slash) bytes)
 
@@ -34,14 +34,13 @@ components bytes = filter is_component (slice_split (λ byte. byte == slash) byt
 abbrev pub is_long : List ℕ → Bool
 is_long component = nat_lt LONGEST_NAME (length component)
 
--- there is a component, and slashes stand behind the last one (4.13)
+-- there is a component, and slashes follow the last one (4.13)
 abbrev pub has_trailing_slash : List ℕ → Bool
 has_trailing_slash bytes = nat_lt 0 (length (components bytes)) && ends_with nat_eq bytes (slash ∷ [])
 
--- the parts of a path, or what is wrong with its text, the first fault in this order: no bytes,
--- ENOENT (4.13); more than 4,095 bytes, ENAMETOOLONG; a component of more than 255 bytes,
--- ENAMETOOLONG (System Interfaces, 2.3; {PATH_MAX} is 4,096 with the null byte). The order is a
--- rule of this project.
+-- the parts of a path, or the first fault of its text in this order: no bytes, ENOENT (4.13); more
+-- than 4,095 bytes, ENAMETOOLONG; a component of more than 255 bytes, ENAMETOOLONG (System
+-- Interfaces, 2.3; {PATH_MAX} is 4,096 with the null byte). The order is a rule of this project.
 abbrev pub parts_of : List ℕ → Result Parts Errno
 parts_of bytes =
     if length bytes == 0 then Err ENOENT
@@ -54,8 +53,8 @@ abbrev pub begins_with_slash : List ℕ → Bool
 begins_with_slash [] = false
 begins_with_slash (byte ∷ bytes) = byte == slash
 
--- the parts of what a symbolic link holds (3.381 Symbolic Link): those of a path. A null byte,
--- which no call puts there, is EINVAL, a rule of this project.
+-- the parts of the text of a symbolic link (3.381 Symbolic Link): those of a path. A null byte,
+-- which no call puts there, gives EINVAL. This is a rule of this project.
 abbrev pub target_parts : List ℕ → Result Parts Errno
 target_parts bytes = if has_nul bytes then Err EINVAL else parts_of bytes
 
@@ -68,8 +67,8 @@ last_name (Some name) = if is_dot name then Dot else if is_dot_dot name then Dot
 abbrev pub last_of : List (List ℕ) → LastName
 last_of names = last_name (slice_get names (length names - 1))
 
--- an answer is the one that is wanted. Want of memory may stand in place of parts, and never of a
--- fault of the text (a rule of this project).
+-- the answer is the wanted one. Out of memory may be returned instead of parts, but never instead
+-- of a fault of the text (a rule of this project).
 abbrev pub IsAnswer : Result Parts Errno → Result Parts PartsFault → Type 0
 IsAnswer wanted (Ok parts) = wanted ≡ Ok parts
 IsAnswer wanted (Err (TextFault errno)) = wanted ≡ Err errno

@@ -1,5 +1,5 @@
--- The bytes of a name as they are kept: in place with zeros behind them, or in a vector. Nothing
--- that a caller has to know: a `Name` keeps it true of its fields.
+-- The bytes of a name as they are kept: in place with zeros after them, or in a vector. No caller
+-- needs to know this: a `Name` keeps it true of its fields.
 use Rattle.std.specs.Prelude.{◌≡◌, ◌<◌, ◌≤◌, ℕ, List, length, take, drop}
 use Rattle.std.specs.List.{AllByRecursion}
 use Rattle.ft_path.specs.declared.TheConstants.{SHORT_NAME}
@@ -15,13 +15,13 @@ kept (Long long) = long.value.items
 abbrev pub AreZeros : List ℕ → Type 0
 AreZeros bytes = AllByRecursion (λ byte. byte ≡ 0) bytes
 
--- in place there are no more than there is room for, and zeros behind them
+-- the bytes in place are no more than there is room for, and zeros follow them
 pub record IsPadded (len : ℕ) (place : List ℕ) : Type 0 where
   pub few : len ≤ SHORT_NAME
   pub whole : length place ≡ SHORT_NAME
   pub zeros : AreZeros (drop len place)
 
--- those in place are padded, and those in a vector are too many to be in place
+-- bytes in place are padded, and bytes in a vector are too many to be in place
 abbrev pub Fits : Bytes → Type 0
 Fits (Short len place) = IsPadded len place
 Fits (Long long) = SHORT_NAME < length long.value.items

@@ -1,9 +1,8 @@
--- What may name a file in a directory (POSIX.1-2017, Base Definitions, 3.170 Filename): 1 to
--- {NAME_MAX} bytes (limits.h), none of them null or a slash.
--- The names dot and dot-dot are such names too. What they stand for is decided where a path is
--- resolved (4.13 Pathname Resolution).
--- Names and paths are compared as lists of bytes (std's `pointwise nat_eq`), and stand in the
--- order of their bytes (`slice_cmp nat_cmp`).
+-- The names that a file in a directory may have (POSIX.1-2017, Base Definitions, 3.170 Filename): 1
+-- to {NAME_MAX} bytes (limits.h), none of them null or a slash. Dot and dot-dot are names too.
+-- Their meaning is decided when a path is resolved (4.13 Pathname Resolution). Names and paths are
+-- compared as lists of bytes (std's `pointwise nat_eq`), and are ordered by their bytes (`slice_cmp
+-- nat_cmp`).
 use Rattle.std.specs.Prelude.{◌≡◌, ◌<◌, ◌≤◌, ◌==◌, ℕ, Bool, false, List, codes, length, nat_eq}
 use Rattle.std.specs.List.{list_any}
 use Rattle.std.specs.Cmp.Lexicographic.{pointwise}
@@ -25,7 +24,7 @@ has_slash bytes = list_any (λ byte. byte == slash) bytes
 abbrev pub IsNulFree : List ℕ → Type 0
 IsNulFree bytes = has_nul bytes ≡ false
 
--- a name: 1 to 255 bytes, none of them null or a slash. `.` and `..` are such.
+-- a name: 1 to 255 bytes, none of them null or a slash. `.` and `..` are names too.
 pub record IsName (bytes : List ℕ) : Type 0 where
   pub not_empty : 0 < length bytes
   pub short : length bytes ≤ LONGEST_NAME

@@ -10,8 +10,8 @@ use crate::{SHORT_NAME, hash, words};
 use std::alloc::{AllocError, Global};
 use std::cmp::Ordering;
 
-/// The bytes of a name: few of them in place, behind their number and with zeros behind them, or
-/// more on the heap.
+/// The bytes of a name. Up to `SHORT_NAME` bytes are in place, after their number and before zeros.
+/// More bytes are on the heap.
 #[derive(Debug, Drop)]
 pub(crate) enum Bytes {
     Short(u8, [u8; SHORT_NAME]),
@@ -19,7 +19,7 @@ pub(crate) enum Bytes {
 }
 
 impl Bytes {
-    /// A copy of bytes. Few of them take no memory.
+    /// Returns a copy of bytes. Up to `SHORT_NAME` bytes take no memory.
     pub(crate) fn copy_of(alloc: Global, bytes: &[u8]) -> Result<Bytes, AllocError>
         ensures kept { IfOk result (λ copy. kept copy ≡ bytes.now) }
         ensures fits { IfOk result (λ copy. Fits copy) }
@@ -35,7 +35,7 @@ impl Bytes {
         Ok(Bytes::Long(Box::new(alloc, long)?))
     }
 
-    /// Another copy of these.
+    /// Returns another copy of these bytes. Up to `SHORT_NAME` bytes take no memory.
     pub(crate) fn copied(&self) -> Result<Bytes, AllocError>
         requires { Fits self.now }
         ensures kept { IfOk result (λ copy. kept copy ≡ kept self.now) }
@@ -48,7 +48,7 @@ impl Bytes {
         }
     }
 
-    /// All of them.
+    /// Returns all of the bytes.
     pub(crate) fn as_slice(&self) -> &[u8]
         requires { Fits self.now }
         ensures { result.now ≡ kept self.now }
@@ -59,7 +59,7 @@ impl Bytes {
         }
     }
 
-    /// Whether they are the same as others.
+    /// Returns whether the bytes are the same as others.
     pub(crate) fn is_same(&self, other: &Bytes) -> bool
         requires fits { Fits self.now }
         requires other_fits { Fits other.now }
@@ -73,7 +73,8 @@ impl Bytes {
         }
     }
 
-    /// How they compare to others. In place the zeros behind them come before all other bytes.
+    /// Returns how the bytes compare to others. If both are in place, the zeros after them are
+    /// compared too: they come before all other bytes.
     pub(crate) fn order(&self, other: &Bytes) -> Ordering
         requires fits { Fits self.now }
         requires other_fits { Fits other.now }
@@ -89,7 +90,7 @@ impl Bytes {
         }
     }
 
-    /// Their hash under a seed.
+    /// Returns the hash of the bytes under a seed.
     pub(crate) fn hashed(&self, seed: u64) -> u64
         requires { Fits self.now }
         ensures { result ≡ hashed seed (kept self.now) }
@@ -100,7 +101,7 @@ impl Bytes {
         }
     }
 
-    /// Whether they are `.`.
+    /// Returns whether the bytes are `.`.
     pub(crate) fn is_dot(&self) -> bool
         requires { Fits self.now }
         ensures { result ≡ is_dot (kept self.now) }
@@ -111,7 +112,7 @@ impl Bytes {
         }
     }
 
-    /// Whether they are `..`.
+    /// Returns whether the bytes are `..`.
     pub(crate) fn is_dot_dot(&self) -> bool
         requires { Fits self.now }
         ensures { result ≡ is_dot_dot (kept self.now) }

@@ -39,7 +39,7 @@ pub enum Errno {
 }
 
 impl Errno {
-    /// Its name, as `ENOENT`.
+    /// Returns the name of the error, for example `ENOENT`.
     pub fn name(self) -> &'static str
         ensures { result.now ≡ errno_name self }
     {

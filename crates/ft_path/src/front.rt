@@ -1,12 +1,12 @@
-// How a text begins, as a number.
+// The beginning of a text, as a number.
 ghost use Rattle.std.specs.Prelude.{◌≡◌};
 ghost use Rattle.ft_path.specs.Front.{front_of};
 
 /// How many bytes make the front of a text.
 const FRONT: usize = 8;
 
-/// The first eight bytes as the digits of a number, the first of them the greatest, with zeros
-/// where there are fewer.
+/// Returns the first eight bytes as the digits of a number. The first byte is the greatest digit,
+/// and missing bytes count as zeros.
 pub(crate) fn front_of(bytes: &[u8]) -> u64
     ensures { result ≡ front_of bytes.now }
 {
@@ -16,7 +16,7 @@ pub(crate) fn front_of(bytes: &[u8]) -> u64
     front_of_few(bytes)
 }
 
-/// The same of any text, byte by byte.
+/// Returns the same number as `front_of`, byte by byte.
 fn front_of_few(bytes: &[u8]) -> u64
     ensures { result ≡ front_of bytes.now }
 {

@@ -8,7 +8,7 @@ use crate::front::front_of;
 use crate::words::{first_eight, last_six, second_eight};
 use ft_index::mix;
 
-/// The hash of a text under a seed.
+/// Returns the hash of a text under a seed.
 pub(crate) fn of_text(seed: u64, bytes: &[u8]) -> u64
     ensures { result ≡ hashed seed bytes.now }
 {
@@ -19,7 +19,7 @@ pub(crate) fn of_text(seed: u64, bytes: &[u8]) -> u64
     hash
 }
 
-/// The hash of a text in a place under a seed.
+/// Returns the hash, under a seed, of a text that is kept in place.
 pub(crate) fn of_place(seed: u64, len: u8, place: &[u8; SHORT_NAME]) -> u64
     requires { IsPadded len place.now }
     ensures { result ≡ hashed seed (take len place.now) }

@@ -1,4 +1,4 @@
-// A path whose text is judged: its parts, and what is behind a front of it.
+// A path whose text is judged: its parts, a front of it, and what comes after a front.
 ghost use Rattle.std.specs.Prelude.{◌≡◌, true, Some, IfOk, IfSome};
 ghost use Rattle.ft_path.specs.FilePath.{components, parts_of, last_name, last_of};
 ghost use Rattle.ft_path.specs.Judged.{EndsInSlash, IsBehind};
@@ -12,7 +12,7 @@ use ft_base::Memory;
 use std::alloc::Global;
 use std::marker::Model;
 
-/// A path whose text is not at fault. Clauses see its parts.
+/// A path whose text has no fault. Clauses see its parts.
 #[derive(Debug, Drop)]
 pub struct JudgedPath<'p> {
     bytes: &'p [u8],
@@ -30,15 +30,19 @@ impl<'p> Model for JudgedPath<'p> {
 
     ghost coded = { parts.the_row.coded };
 
-    ghost view = { λ a. record { names = components a.bytes.now; trailing = has_trailing_slash a.bytes.now } };
+    ghost view = { λ a. record {
+      names = components a.bytes.now;
+      trailing = has_trailing_slash a.bytes.now;
+    } };
 
-    ghost invariant = { λ a. IsNulFree a.bytes.now × (list_any is_long (components a.bytes.now) ≡ false) };
+    ghost invariant = { λ a. IsNulFree a.bytes.now
+        × (list_any is_long (components a.bytes.now) ≡ false) };
 }
 
 impl FilePath {
-    /// The path, if its text is not at fault.
+    /// Returns the path, if its text has no fault.
     ///
-    /// Refuses what `parts` refuses, but takes no memory.
+    /// Refuses the same texts as `parts`, with the same errors, but takes no memory.
     pub fn judged(&self) -> Result<JudgedPath<'_>, Errno>
         ensures { result ≡ parts_of self.now }
     {
@@ -54,7 +58,8 @@ impl FilePath {
 }
 
 impl<'p> JudgedPath<'p> {
-    /// The components, and whether slashes stand behind the last one.
+    /// Returns the components, and whether slashes follow the last one. Out of memory is the only
+    /// error.
     pub fn parts(&self, alloc: Global) -> Result<Parts, Memory>
         ensures { IfOk result (λ parts. parts ≡ self.now) }
     {
@@ -63,7 +68,7 @@ impl<'p> JudgedPath<'p> {
         Ok(Parts { names, trailing })
     }
 
-    /// Its bytes.
+    /// Returns the bytes of the path.
     pub fn as_bytes(&self) -> &'p [u8]
         ensures names { components result.now ≡ self.now.names }
         ensures slash { self.now.trailing ≡ true → EndsInSlash result.now }
@@ -71,7 +76,7 @@ impl<'p> JudgedPath<'p> {
         self.bytes
     }
 
-    /// What the last component is.
+    /// Returns what the last component is.
     pub fn last(&self) -> LastName
         ensures { result ≡ last_of self.now.names }
     {
@@ -84,8 +89,9 @@ impl<'p> JudgedPath<'p> {
         last
     }
 
-    /// The front of the path: up to and with the slash before the last component. None if there is
-    /// no such slash, or only one component before it, or if slashes stand together.
+    /// Returns the front of the path: its text up to and including the last slash. Returns none if
+    /// the path has no slash or ends in one, or if another slash comes right before the last. Also
+    /// returns none if there is no slash between the first byte and the last slash, as in `/a/b`.
     pub fn front(&self) -> Option<JudgedPath<'p>>
         ensures { IfSome result (λ front. front.trailing ≡ true) }
     {
@@ -101,8 +107,8 @@ impl<'p> JudgedPath<'p> {
         Some(JudgedPath { bytes })
     }
 
-    /// What is behind a front of the path that ends in a slash, if the path begins with it and a
-    /// component comes next.
+    /// Returns what comes after a front that ends in a slash, if the path begins with this front
+    /// and a component comes next.
     pub fn behind(&self, front: &[u8]) -> Option<JudgedPath<'p>>
         requires { EndsInSlash front.now }
         ensures { IfSome result (λ rest. IsBehind front.now rest self.now) }
@@ -115,7 +121,7 @@ impl<'p> JudgedPath<'p> {
     }
 }
 
-/// What a component is, if it is the last one.
+/// Returns what a component is, if it is the last one.
 fn kind_of(name: &[u8]) -> LastName
     ensures { result ≡ last_name (Some name.now) }
 {

@@ -27,6 +27,6 @@ pub const LONGEST_NAME: usize = 255;
 /// The most bytes that a path has: {PATH_MAX} is 4,096, and counts the null byte at the end.
 pub const LONGEST_PATH: usize = 4095;
 
-/// A name of at most so many bytes takes no memory. They stand in the name itself, with one byte
-/// for how many they are and one that tells them from bytes on the heap, which makes 24.
+/// A name of at most this many bytes takes no memory. The name itself holds them, with one byte for
+/// their number and one that says that they are not on the heap. This makes 24 bytes.
 pub const SHORT_NAME: usize = 22;

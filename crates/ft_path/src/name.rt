@@ -17,8 +17,8 @@ use std::marker::Model;
 
 /// The name of a file in a directory: 1 to 255 bytes, none of them null or a slash.
 ///
-/// `.` and `..` are names. Names are ordered by their bytes: first by how these begin, as a number,
-/// by which most names are told apart at once.
+/// `.` and `..` are names. Names are ordered by their bytes. Two names of at most `SHORT_NAME`
+/// bytes are compared as numbers of eight bytes, and the first number decides for most names.
 #[derive(Debug, Drop)]
 pub struct Name {
     bytes: Bytes,
@@ -37,7 +37,7 @@ impl Model for Name {
 }
 
 impl Name {
-    /// The name that has these bytes. Up to `SHORT_NAME` of them take no memory.
+    /// Returns the name with these bytes. Up to `SHORT_NAME` bytes take no memory.
     pub fn from_bytes(alloc: Global, bytes: &[u8]) -> Result<Name, Memory>
         requires { IsName bytes.now }
         ensures name { IfOk result (λ name. name ≡ bytes.now) }
@@ -47,7 +47,7 @@ impl Name {
         Ok(Name { bytes })
     }
 
-    /// Its bytes.
+    /// Returns the bytes of the name.
     pub fn as_bytes(&self) -> &[u8]
         ensures value { result.now ≡ self.now }
         ensures valid { IsName self.now }
@@ -55,21 +55,21 @@ impl Name {
         self.bytes.as_slice()
     }
 
-    /// Whether it is `.`, the name of a directory in itself.
+    /// Returns whether the name is `.`, that of a directory in itself.
     pub fn is_dot(&self) -> bool
         ensures { result ≡ is_dot self.now }
     {
         self.bytes.is_dot()
     }
 
-    /// Whether it is `..`, the name of a directory's parent.
+    /// Returns whether the name is `..`, that of a directory's parent.
     pub fn is_dot_dot(&self) -> bool
         ensures { result ≡ is_dot_dot self.now }
     {
         self.bytes.is_dot_dot()
     }
 
-    /// Another name of the same bytes. Up to `SHORT_NAME` of them take no memory.
+    /// Returns another name with the same bytes. Up to `SHORT_NAME` bytes take no memory.
     pub fn try_clone(&self) -> Result<Name, Memory>
         ensures name { IfOk result (λ name. name ≡ self.now) }
         ensures short { length self.now ≤ SHORT_NAME → IsOk result }
@@ -77,13 +77,16 @@ impl Name {
         Ok(self.copied()?)
     }
 
-    /// Its hash under a seed, by which an index finds it: the same for the same name.
+    /// Returns the hash of the name under a seed, by which an index finds it. The same name has the
+    /// same hash.
     pub fn hashed(&self, seed: u64) -> u64
         ensures { result ≡ hashed seed self.now }
     {
         self.bytes.hashed(seed)
     }
 
+    /// Returns another name with the same bytes, or the error of the allocation. Up to `SHORT_NAME`
+    /// bytes take no memory.
     fn copied(&self) -> Result<Name, AllocError>
         ensures name { IfOk result (λ name. name ≡ self.now) }
         ensures short { length self.now ≤ SHORT_NAME → IsOk result }
@@ -94,7 +97,7 @@ impl Name {
 }
 
 impl Default for Name {
-    /// `.`, the name of a directory in itself.
+    /// Returns `.`, the name of a directory in itself.
     fn default() -> Name
         ensures { result ≡ 46 ∷ [] }
     {
@@ -131,7 +134,8 @@ impl Eq for Name {
 impl Hash for Name {
     ghost hash_input = { λ name. name ∷ [] };
 
-    ghost respects_eq = { λ x y same. ap (λ (name : List ℕ). name ∷ []) ((bytes_decides x y).0 same) };
+    ghost respects_eq = { λ x y same. ap (λ (name : List ℕ). name
+        ∷ []) ((bytes_decides x y).0 same) };
 
     fn hash<H: Hasher>(&self, state: &mut H) {
         state.write(self.as_bytes());

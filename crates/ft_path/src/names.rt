@@ -9,7 +9,7 @@ use smallvec::SmallVec;
 use std::alloc::Global;
 use std::marker::Model;
 
-/// A list of names. One of up to four takes no memory but that of its names.
+/// A list of names. Up to four names take no memory except their own.
 #[derive(Debug, Drop)]
 pub struct Names {
     items: SmallVec<Name, 4>,
@@ -24,7 +24,7 @@ impl Model for Names {
 }
 
 impl Names {
-    /// No names. Takes no memory.
+    /// Returns the empty list. Takes no memory.
     pub fn new(alloc: Global) -> Names
         ensures { result ≡ [] }
     {
@@ -33,14 +33,14 @@ impl Names {
         }
     }
 
-    /// The names, in order.
+    /// Returns the names, in order.
     pub fn as_slice(&self) -> &[Name]
         ensures { result.now ≡ self.now }
     {
         self.items.as_slice()
     }
 
-    /// Puts a name behind the others. Where there is no memory the name is dropped.
+    /// Appends a name. If there is not enough memory, drops the name, and the list has not changed.
     pub fn push(&mut self, name: Name) -> Result<(), Memory>
         ensures ok { OnOk result (self.new ≡ self.old ++ name ∷ []) }
         ensures err { OnErr result (self.new ≡ self.old) }
@@ -49,7 +49,7 @@ impl Names {
         Ok(())
     }
 
-    /// Puts copies of names behind the others.
+    /// Appends copies of names. On an error, some of the copies may be in the list.
     pub fn push_copies(&mut self, names: &[Name]) -> Result<(), Memory>
         ensures { OnOk result (self.new ≡ self.old ++ names.now) }
     {

@@ -16,10 +16,10 @@ use std::alloc::{AllocError, Global};
 use std::marker::Model;
 use thiserror::Error;
 
-/// Why bytes made no path.
+/// Why bytes did not make a path.
 #[derive(Clone, Copy, Debug, PartialEq, Eq, Error)]
 pub enum PathFault {
-    /// There was no memory left.
+    /// There was not enough memory.
     #[error("Memory")]
     Memory = 1,
     /// A byte is null.
@@ -41,10 +41,10 @@ impl From<Memory> for PathFault {
 /// Why a path gave no parts.
 #[derive(Clone, Copy, Debug, PartialEq, Eq, Error)]
 pub enum PartsFault {
-    /// There was no memory left.
+    /// There was not enough memory.
     #[error("Memory")]
     Memory,
-    /// The text is at fault.
+    /// The text has a fault.
     #[error("{0}")]
     Errno(Errno),
 }
@@ -74,16 +74,17 @@ impl Model for FilePath {
     ghost invariant = { λ a. IsNulFree a.bytes.items };
 }
 
-/// The components of a path, and whether slashes stand behind the last one.
+/// The components of a path, and whether slashes follow the last one.
 ///
-/// A path without components, as `/`, has no trailing slash.
+/// A path without components, such as `/`, has no trailing slash.
 #[derive(Debug, PartialEq, Eq, Drop)]
 pub struct Parts {
     pub names: Names,
     pub trailing: bool,
 }
 
-/// What the last component of a path is (POSIX.1-2017, Base Definitions, 4.13 Pathname Resolution).
+/// The kind of the last component of a path (POSIX.1-2017, Base Definitions, 4.13 Pathname
+/// Resolution).
 #[derive(Clone, Copy, Debug, PartialEq, Eq)]
 pub enum LastName {
     /// There is no component: the path leads to the root.
@@ -97,7 +98,7 @@ pub enum LastName {
 }
 
 impl Parts {
-    /// What the last component is.
+    /// Returns what the last component is.
     pub fn last(&self) -> LastName
         ensures { result ≡ last_of self.now.names }
     {
@@ -111,7 +112,8 @@ impl Parts {
 }
 
 impl FilePath {
-    /// The path that has these bytes, of any number. A null byte is refused, and nothing else is.
+    /// Returns the path with these bytes, however many they are. Refuses a null byte. The only
+    /// other error is out of memory.
     pub fn new(alloc: Global, bytes: &[u8]) -> Result<FilePath, PathFault>
         ensures path { IfOk result (λ path. path ≡ bytes.now) }
         ensures nul { (result ≡ Err PathFault.NulByte) ↔ IsTrue (has_nul bytes.now) }
@@ -123,7 +125,7 @@ impl FilePath {
         Ok(FilePath { bytes })
     }
 
-    /// Its bytes.
+    /// Returns the bytes of the path.
     pub fn as_bytes(&self) -> &[u8]
         ensures value { result.now ≡ self.now }
         ensures nul_free { IsNulFree self.now }
@@ -131,17 +133,18 @@ impl FilePath {
         self.bytes.as_slice()
     }
 
-    /// The components of the path.
+    /// Returns the components of the path, and whether slashes follow the last one.
     ///
-    /// Refuses an empty path with ENOENT, and then a path of more than 4,095 bytes or with a
-    /// component of more than 255 bytes with ENAMETOOLONG.
+    /// Refuses an empty path with ENOENT. Then refuses a path of more than 4,095 bytes, or with a
+    /// component of more than 255 bytes, with ENAMETOOLONG. The error is out of memory only if the
+    /// text has no fault.
     pub fn parts(&self, alloc: Global) -> Result<Parts, PartsFault>
         ensures { IsAnswer (parts_of self.now) result }
     {
         text_parts(alloc, self.as_bytes())
     }
 
-    /// Another path of the same bytes.
+    /// Returns another path with the same bytes. Out of memory is the only error.
     pub fn try_clone(&self) -> Result<FilePath, Memory>
         ensures { IfOk result (λ path. path ≡ self.now) }
     {
@@ -173,7 +176,8 @@ impl Eq for FilePath {
     ghost laws = { nat_list_eq_equiv };
 }
 
-/// The parts of what a symbolic link holds: as those of a path. A null byte is refused with EINVAL.
+/// Returns the parts of the text of a symbolic link, by the rules for a path. Refuses a null byte
+/// with EINVAL.
 pub fn target_parts(alloc: Global, target: &[u8]) -> Result<Parts, PartsFault>
     ensures { IsAnswer (target_parts target.now) result }
 {
@@ -183,7 +187,7 @@ pub fn target_parts(alloc: Global, target: &[u8]) -> Result<Parts, PartsFault>
     text_parts(alloc, target)
 }
 
-/// Whether a path begins with a slash.
+/// Returns whether a path begins with a slash.
 pub fn begins_with_slash(path: &[u8]) -> bool
     ensures { result ≡ begins_with_slash path.now }
 {
@@ -193,7 +197,8 @@ pub fn begins_with_slash(path: &[u8]) -> bool
     }
 }
 
-/// The parts of the text of a path.
+/// Returns the parts of the text of a path. The error is out of memory only if the text has no
+/// fault.
 fn text_parts(alloc: Global, bytes: &[u8]) -> Result<Parts, PartsFault>
     requires { IsNulFree bytes.now }
     ensures { IsAnswer (parts_of bytes.now) result }
@@ -209,7 +214,7 @@ fn text_parts(alloc: Global, bytes: &[u8]) -> Result<Parts, PartsFault>
     Ok(Parts { names, trailing })
 }
 
-/// Whether a component has more bytes than a name.
+/// Returns whether a component has more bytes than a name may have.
 pub(crate) fn has_long_component(bytes: &[u8]) -> bool
     ensures { result ≡ list_any is_long (components bytes.now) }
 {
@@ -224,7 +229,7 @@ pub(crate) fn has_long_component(bytes: &[u8]) -> bool
     false
 }
 
-/// The components as names.
+/// Returns the components as names. Out of memory is the only error.
 pub(crate) fn component_names(alloc: Global, bytes: &[u8]) -> Result<Names, Memory>
     requires nul_free { IsNulFree bytes.now }
     requires short { list_any is_long (components bytes.now) ≡ false }

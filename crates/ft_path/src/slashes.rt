@@ -7,7 +7,7 @@ ghost use Rattle.ft_path.specs.FilePath.{pieces_left};
 use bstr::ByteSlice;
 use std::marker::Model;
 
-/// The pieces between the slashes of a text, in order, the empty ones too.
+/// The pieces between the slashes of a text, in order, including the empty ones.
 #[derive(Drop)]
 pub(crate) struct Pieces<'a> {
     rest: Option<&'a [u8]>,
@@ -20,7 +20,7 @@ impl<'a> Model for Pieces<'a> {
 }
 
 impl<'a> Pieces<'a> {
-    /// The pieces of this text: at least one.
+    /// Returns the pieces of a text. There is at least one.
     pub(crate) fn of(text: &'a [u8]) -> Pieces<'a>
         ensures { result ≡ slice_split (λ b. b == slash) text.entry.now }
     {
@@ -53,10 +53,11 @@ impl<'a> Iterator for Pieces<'a> {
     }
 }
 
-/// What stands before the first slash, and what stands after it, where there is one.
+/// Returns what comes before the first slash and what comes after it, if there is a slash.
 fn cut(text: &[u8]) -> Option<(&[u8], &[u8])>
     ensures { MatchOption result (has_slash text.now ≡ false)
-        (λ parts. (has_slash parts.0.now ≡ false) × (text.now ≡ parts.0.now ++ slash ∷ parts.1.now)) }
+        (λ parts. (has_slash parts.0.now ≡ false)
+        × (text.now ≡ parts.0.now ++ slash ∷ parts.1.now)) }
 {
     match text.find_byte(b'/') {
         None => None,

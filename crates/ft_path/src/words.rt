@@ -1,4 +1,4 @@
-// The place of a short name, read as words of eight bytes.
+// The bytes of a short name in their place, read as words of eight bytes.
 ghost use Rattle.std.specs.Prelude.{◌≡◌, drop};
 ghost use Rattle.std.specs.Bool.{Decides};
 ghost use Rattle.std.specs.Ordering.{nat_cmp};
@@ -8,7 +8,7 @@ ghost use Rattle.ft_path.specs.Front.{front_of};
 use crate::SHORT_NAME;
 use std::cmp::Ordering;
 
-/// Whether two places have the same bytes.
+/// Returns whether two places have the same bytes.
 pub(crate) fn are_same(place: &[u8; SHORT_NAME], other: &[u8; SHORT_NAME]) -> bool
     ensures { Decides result (place.now ≡ other.now) }
 {
@@ -17,7 +17,7 @@ pub(crate) fn are_same(place: &[u8; SHORT_NAME], other: &[u8; SHORT_NAME]) -> bo
         && last_eight(place) == last_eight(other)
 }
 
-/// How the bytes of one place compare to those of another.
+/// Returns how the bytes of one place compare to those of another.
 pub(crate) fn order(place: &[u8; SHORT_NAME], other: &[u8; SHORT_NAME]) -> Ordering
     ensures { result ≡ slice_cmp nat_cmp place.now other.now }
 {
@@ -30,7 +30,7 @@ pub(crate) fn order(place: &[u8; SHORT_NAME], other: &[u8; SHORT_NAME]) -> Order
     }
 }
 
-/// The first eight bytes of a place as the digits of a number.
+/// Returns the first eight bytes of a place as the digits of a number.
 pub(crate) fn first_eight(place: &[u8; SHORT_NAME]) -> u64
     ensures { result ≡ front_of place.now }
 {
@@ -39,7 +39,7 @@ pub(crate) fn first_eight(place: &[u8; SHORT_NAME]) -> u64
     ])
 }
 
-/// The eight bytes behind those.
+/// Returns the second eight bytes of a place as the digits of a number.
 pub(crate) fn second_eight(place: &[u8; SHORT_NAME]) -> u64
     ensures { result ≡ front_of (drop 8 place.now) }
 {
@@ -48,7 +48,8 @@ pub(crate) fn second_eight(place: &[u8; SHORT_NAME]) -> u64
     ])
 }
 
-/// The last eight bytes, the first two of which are the last of the second eight.
+/// Returns the last eight bytes of a place as the digits of a number. Their first two are also the
+/// last two of the second eight.
 fn last_eight(place: &[u8; SHORT_NAME]) -> u64
     ensures { result ≡ front_of (drop 14 place.now) }
 {
@@ -57,7 +58,8 @@ fn last_eight(place: &[u8; SHORT_NAME]) -> u64
     ])
 }
 
-/// The bytes behind the second eight, with two zeros behind them.
+/// Returns the six bytes after the second eight, and two zeros after them, as the digits of a
+/// number.
 pub(crate) fn last_six(place: &[u8; SHORT_NAME]) -> u64
     ensures { result ≡ front_of (drop 16 place.now) }
 {

@@ -5,10 +5,10 @@ use Rattle.std.specs.Char.{is_ascii_digit, is_ascii_lowercase}
 use Rattle.std.specs.List.{list_all}
 use Rattle.std.specs.Option.{option_map_or}
 use Rattle.std.specs.Str.{bytes_eq}
-use Rattle.ft_words.specs.declared.unread.Unread.{Unread}
-use Rattle.ft_words.specs.declared.unread.Unread.TheVariants.{Misspelt, NoMemory}
+use Rattle.ft_words.specs.declared.parse_error.ParseError.{ParseError}
+use Rattle.ft_words.specs.declared.parse_error.ParseError.TheVariants.{Misspelt, NoMemory}
 use Rattle.ft_words.specs.Spelling.{stripped, words_of_line}
-use Rattle.ft_words.specs.Calls.{look_up, call_of, read_by, descriptor_calls}
+use Rattle.ft_words.specs.Calls.{look_up, parse_call, read_by, descriptor_calls}
 use Rattle.ft_plan.specs.declared.fault.JobFault.{JobFault}
 use Rattle.ft_plan.specs.declared.fault.JobFault.TheVariants as faults
 use Rattle.ft_plan.specs.declared.job.JobKind.{JobKind}
@@ -19,7 +19,7 @@ use Rattle.ft_plan.specs.declared.line.PlanLine.{PlanLine}
 use Rattle.ft_plan.specs.declared.line.PlanLine.TheVariants as line
 
 -- BadPlan for words that spell nothing, Memory if there is not enough memory
-abbrev pub fault_from : Unread → JobFault
+abbrev pub fault_from : ParseError → JobFault
 fault_from Misspelt = faults.BadPlan
 fault_from NoMemory = faults.Memory
 
@@ -97,7 +97,7 @@ on_opened name words = option_map CallOn (option_and_then (read_by descriptor_ca
 
 -- a call, as `on_opened` or as in a script
 abbrev pub call_step : List ℕ → List (List ℕ) → Option Step
-call_step name words = option_map_or Some (on_opened name words) (option_map Call (call_of name words))
+call_step name words = option_map_or Some (on_opened name words) (option_map Call (parse_call name words))
 
 -- a step that is not tried, by its first word and the others
 abbrev pub plain_step : List ℕ → List (List ℕ) → Option Step

@@ -1,6 +1,6 @@
 // Why a plan is not read, or its jobs are not run.
 use ft_base::Memory;
-use ft_words::Unread;
+use ft_words::ParseError;
 use std::alloc::AllocError;
 use thiserror::Error;
 
@@ -43,16 +43,16 @@ impl From<AllocError> for JobFault {
     }
 }
 
-impl From<Unread> for JobFault {
+impl From<ParseError> for JobFault {
     ghost use Rattle.std.specs.Prelude.{◌≡◌};
     ghost use Rattle.ft_plan.specs.Lines.{fault_from};
 
     ghost from_gives = { λ unread fault. fault ≡ fault_from unread };
 
-    fn from(unread: Unread) -> JobFault {
+    fn from(unread: ParseError) -> JobFault {
         match unread {
-            Unread::Misspelt => JobFault::BadPlan,
-            Unread::NoMemory => JobFault::Memory,
+            ParseError::Misspelt => JobFault::BadPlan,
+            ParseError::NoMemory => JobFault::Memory,
         }
     }
 }

@@ -7,7 +7,7 @@ ghost use Rattle.ft_plan.specs.Lines.{line_of, after_line, names_of, job_line, m
 use crate::job::{JobKind, Step};
 use crate::name::JobName;
 use ft_base::Sequence;
-use ft_words::{Unread, Words, call_of, descriptor_call_of};
+use ft_words::{ParseError, Words, parse_call, parse_descriptor_call};
 use std::alloc::Global;
 
 /// The meaning of a line of a plan.
@@ -22,11 +22,11 @@ pub enum PlanLine {
 }
 
 /// Returns the meaning of the words of a line of a plan, which is strict or is not.
-pub fn line_of(alloc: Global, strict: bool, words: Words<'_>) -> Result<PlanLine, Unread>
+pub fn line_of(alloc: Global, strict: bool, words: Words<'_>) -> Result<PlanLine, ParseError>
     ensures { Reads result (line_of strict words.entry) }
 {
     let mut words = words;
-    let word = words.next().ok_or(Unread::Misspelt)?;
+    let word = words.next().ok_or(ParseError::Misspelt)?;
     if word == b"job".as_slice() {
         return job_line(alloc, strict, words);
     }
@@ -37,13 +37,13 @@ pub fn line_of(alloc: Global, strict: bool, words: Words<'_>) -> Result<PlanLine
     Ok(PlanLine::Step(step))
 }
 
-// A job begins: its name, and that of the job which is around it. In a strict plan `must` may come
-// before both.
-fn job_line(alloc: Global, strict: bool, words: Words<'_>) -> Result<PlanLine, Unread>
+/// Reads the line that begins a job: its name, and the name of the job around it. In a strict plan
+/// `must` may come before both.
+fn job_line(alloc: Global, strict: bool, words: Words<'_>) -> Result<PlanLine, ParseError>
     ensures { Reads result (job_line strict words.entry) }
 {
     let mut words = words;
-    let word = words.next().ok_or(Unread::Misspelt)?;
+    let word = words.next().ok_or(ParseError::Misspelt)?;
     if !strict {
         return heading(alloc, JobKind::Free, word, words);
     }
@@ -53,21 +53,27 @@ fn job_line(alloc: Global, strict: bool, words: Words<'_>) -> Result<PlanLine, U
     heading(alloc, JobKind::Strict, word, words)
 }
 
-// After `must` there must be both names.
-fn must_line(alloc: Global, words: Words<'_>) -> Result<PlanLine, Unread>
+/// Reads what comes after `must`: both names must be there.
+fn must_line(alloc: Global, words: Words<'_>) -> Result<PlanLine, ParseError>
     ensures { Reads result (must_line words.entry) }
 {
     let mut words = words;
-    let name = words.next().ok_or(Unread::Misspelt)?;
-    let parent = words.next().ok_or(Unread::Misspelt)?;
+    let name = words.next().ok_or(ParseError::Misspelt)?;
+    let parent = words.next().ok_or(ParseError::Misspelt)?;
     if words.next().is_some() {
-        return Err(Unread::Misspelt);
+        return Err(ParseError::Misspelt);
     }
     subheading(alloc, JobKind::Must, name, parent)
 }
 
-// A job of this kind and name begins, under the one that the others name, if they do.
-fn heading(alloc: Global, kind: JobKind, name: &[u8], others: Words<'_>) -> Result<PlanLine, Unread>
+/// Returns the line that begins a job of this kind and name, under the job that the other words
+/// name, if they name one.
+fn heading(
+    alloc: Global,
+    kind: JobKind,
+    name: &[u8],
+    others: Words<'_>,
+) -> Result<PlanLine, ParseError>
     ensures { Reads result (heading kind name.now others.entry) }
 {
     let mut others = others;
@@ -76,13 +82,18 @@ fn heading(alloc: Global, kind: JobKind, name: &[u8], others: Words<'_>) -> Resu
         return Ok(PlanLine::Job(name, None, kind));
     };
     if others.next().is_some() {
-        return Err(Unread::Misspelt);
+        return Err(ParseError::Misspelt);
     }
     subheading(alloc, kind, name, parent)
 }
 
-// A job of this kind and name begins, under that one.
-fn subheading(alloc: Global, kind: JobKind, name: &[u8], parent: &[u8]) -> Result<PlanLine, Unread>
+/// Returns the line that begins a job of this kind and name, under this parent.
+fn subheading(
+    alloc: Global,
+    kind: JobKind,
+    name: &[u8],
+    parent: &[u8],
+) -> Result<PlanLine, ParseError>
     ensures { Reads result (subheading kind name.now parent.now) }
 {
     let name = JobName::read(alloc, name)?;
@@ -90,35 +101,35 @@ fn subheading(alloc: Global, kind: JobKind, name: &[u8], parent: &[u8]) -> Resul
     Ok(PlanLine::Job(name, Some(parent), kind))
 }
 
-// The names of the jobs that must have committed: one at least.
-fn after_line(alloc: Global, words: Words<'_>) -> Result<PlanLine, Unread>
+/// Reads the names of the jobs that must have committed: at least one.
+fn after_line(alloc: Global, words: Words<'_>) -> Result<PlanLine, ParseError>
     ensures { Reads result (after_line words.entry) }
 {
     let names = names_of(alloc, words)?;
     if names.is_empty() {
-        return Err(Unread::Misspelt);
+        return Err(ParseError::Misspelt);
     }
     Ok(PlanLine::After(names.into()))
 }
 
-// The names that all these words are.
+/// Returns all these words as names.
 #[tactic(auto, using(crate::proofs::Names::names_next, crate::proofs::Names::no_names))]
-fn names_of(alloc: Global, words: Words<'_>) -> Result<Vec<JobName>, Unread>
+fn names_of(alloc: Global, words: Words<'_>) -> Result<Vec<JobName>, ParseError>
     ensures read { IfOk result (λ names. names_of words.entry ≡ Some names.items) }
-    ensures misspelt { IsErrOf result Unread.Misspelt → names_of words.entry ≡ None }
+    ensures misspelt { IsErrOf result ParseError.Misspelt → names_of words.entry ≡ None }
 {
     let mut names = Vec::new(alloc);
     for word in words {
         let name = JobName::read(alloc, word)?;
         if names.push(name).is_err() {
-            return Err(Unread::NoMemory);
+            return Err(ParseError::NoMemory);
         }
     }
     Ok(names)
 }
 
-// A step, by its first word. In a strict plan a call may be tried.
-fn step_of(alloc: Global, strict: bool, word: &[u8], others: Words<'_>) -> Result<Step, Unread>
+/// Returns the step that begins with this word. In a strict plan a call may be tried.
+fn step_of(alloc: Global, strict: bool, word: &[u8], others: Words<'_>) -> Result<Step, ParseError>
     ensures { Reads result (step_of strict word.now others.entry) }
 {
     if strict && word == b"try".as_slice() {
@@ -127,17 +138,17 @@ fn step_of(alloc: Global, strict: bool, word: &[u8], others: Words<'_>) -> Resul
     plain_step(alloc, word, others)
 }
 
-// A call that may fail.
-fn tried_step(alloc: Global, words: Words<'_>) -> Result<Step, Unread>
+/// Returns the step of a call that may fail.
+fn tried_step(alloc: Global, words: Words<'_>) -> Result<Step, ParseError>
     ensures { Reads result (tried_step words.entry) }
 {
     let mut words = words;
-    let word = words.next().ok_or(Unread::Misspelt)?;
+    let word = words.next().ok_or(ParseError::Misspelt)?;
     let step = call_step(alloc, word, words)?;
     Ok(tried(step))
 }
 
-// The step if its call may fail.
+/// Returns the step that tries the call of this step. A step without a call remains the same.
 fn tried(step: Step) -> Step
     ensures { result ≡ tried step }
 {
@@ -148,19 +159,19 @@ fn tried(step: Step) -> Step
     }
 }
 
-// A step that is not tried.
-fn plain_step(alloc: Global, word: &[u8], others: Words<'_>) -> Result<Step, Unread>
+/// Returns a step that is not tried.
+fn plain_step(alloc: Global, word: &[u8], others: Words<'_>) -> Result<Step, ParseError>
     ensures { Reads result (plain_step word.now others.entry) }
 {
     let mut others = others;
     match lone_step(word) {
         None => call_step(alloc, word, others),
         Some(step) if others.next().is_none() => Ok(step),
-        Some(_) => Err(Unread::Misspelt),
+        Some(_) => Err(ParseError::Misspelt),
     }
 }
 
-// A step of one word.
+/// Returns the step of one word.
 fn lone_step(word: &[u8]) -> Option<Step>
     ensures { result ≡ look_up lone_steps word.now }
 {
@@ -175,24 +186,25 @@ fn lone_step(word: &[u8]) -> Option<Step>
     }
 }
 
-// A call, which may be on the descriptor that an earlier step opened.
-fn call_step(alloc: Global, name: &[u8], words: Words<'_>) -> Result<Step, Unread>
+/// Returns the step of a call, which may be on the descriptor that an earlier step opened.
+fn call_step(alloc: Global, name: &[u8], words: Words<'_>) -> Result<Step, ParseError>
     ensures { Reads result (call_step name.now words.entry) }
 {
     match on_opened(alloc, name, &words) {
-        Err(Unread::Misspelt) => {
-            let call = call_of(alloc, name, words)?;
+        Err(ParseError::Misspelt) => {
+            let call = parse_call(alloc, name, words)?;
             Ok(Step::Call(call))
         }
         step => step,
     }
 }
 
-// A call on the descriptor that an earlier step opened, which is written as `@` and its number.
-fn on_opened(alloc: Global, name: &[u8], words: &Words<'_>) -> Result<Step, Unread>
+/// Returns the step of a call on the descriptor that an earlier step opened, which is written as
+/// `@` and its number.
+fn on_opened(alloc: Global, name: &[u8], words: &Words<'_>) -> Result<Step, ParseError>
     ensures { Reads result (on_opened name.now words.now) }
 {
-    let words = words.strip(b'@').ok_or(Unread::Misspelt)?;
-    let call = descriptor_call_of(alloc, name, words)?;
+    let words = words.strip_first_byte(b'@').ok_or(ParseError::Misspelt)?;
+    let call = parse_descriptor_call(alloc, name, words)?;
     Ok(Step::CallOn(call))
 }

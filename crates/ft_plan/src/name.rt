@@ -7,12 +7,12 @@ ghost use Rattle.std.specs.Cmp.Lexicographic.{pointwise, nat_list_eq_equiv};
 ghost use Rattle.ft_words.specs.Calls.{Reads};
 ghost use Rattle.ft_plan.specs.Lines.{job_name_of, is_name_byte};
 
-use ft_words::Unread;
+use ft_words::ParseError;
 use std::alloc::Global;
 use std::marker::Model;
 use std::{fmt, str};
 
-// The most bytes of a name.
+/// The most bytes of a name.
 const LONGEST_NAME: usize = 32;
 
 /// The name of a job: 1 to 32 of the bytes a to z, 0 to 9, `_` and `-`.
@@ -32,17 +32,17 @@ impl Model for JobName {
 impl JobName {
     /// The name that a word is, if it is one.
     #[tactic(auto, using(crate::proofs::Naming::is_text, crate::proofs::Naming::is_name))]
-    pub fn read(alloc: Global, word: &[u8]) -> Result<JobName, Unread>
+    pub fn read(alloc: Global, word: &[u8]) -> Result<JobName, ParseError>
         ensures { Reads result (job_name_of word.now) }
     {
         if word.is_empty() || word.len() > LONGEST_NAME || !are_name_bytes(word) {
-            return Err(Unread::Misspelt);
+            return Err(ParseError::Misspelt);
         }
         match str::from_utf8(word) {
             Ok(text) => Ok(JobName {
                 text: String::from_str(alloc, text)?,
             }),
-            Err(_) => Err(Unread::Misspelt),
+            Err(_) => Err(ParseError::Misspelt),
         }
     }
 
@@ -76,14 +76,14 @@ impl fmt::Display for JobName {
     }
 }
 
-// Whether a name may have this byte.
+/// Returns whether a name may have this byte.
 fn is_name_byte(byte: u8) -> bool
     ensures { result ≡ is_name_byte byte }
 {
     byte.is_ascii_lowercase() || byte.is_ascii_digit() || byte == b'_' || byte == b'-'
 }
 
-// Whether a name may have each of these bytes.
+/// Returns whether a name may have each of these bytes.
 fn are_name_bytes(word: &[u8]) -> bool
     ensures { result ≡ list_all is_name_byte word.now }
 {

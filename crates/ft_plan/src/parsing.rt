@@ -18,8 +18,10 @@ use std::marker::Model;
 ///
 /// Returns BadPlan if the lines are not those of any jobs.
 pub fn jobs_of(alloc: Global, text: &[u8]) -> Result<Vec<Job>, JobFault>
-    ensures ok { IfOk result (λ jobs. plan_said (lines_of text.now) ≡ Some (plan_lines jobs.items)) }
-    ensures bad { IsErrOf result JobFault.BadPlan → (jobs : List Job) → plan_said (lines_of text.now) ≡ Some (plan_lines jobs) → ⊥ }
+    ensures ok { IfOk result
+        (λ jobs. plan_said (lines_of text.now) ≡ Some (plan_lines jobs.items)) }
+    ensures bad { IsErrOf result JobFault.BadPlan → (jobs : List Job)
+        → plan_said (lines_of text.now) ≡ Some (plan_lines jobs) → ⊥ }
     ensures cause { IfErr result (λ fault. (fault ≡ JobFault.BadPlan) ⊎ (fault ≡ JobFault.Memory)) }
 {
     match behind_strict(Lines::of(text)) {
@@ -28,7 +30,7 @@ pub fn jobs_of(alloc: Global, text: &[u8]) -> Result<Vec<Job>, JobFault>
     }
 }
 
-// The lines after the one by which a plan is strict, if all before it are silent.
+/// Returns the lines after the one that makes a plan strict, if all lines before it are silent.
 fn behind_strict(lines: Lines<'_>) -> Option<Lines<'_>>
     ensures { result ≡ behind_strict lines.entry }
 {
@@ -45,20 +47,21 @@ fn behind_strict(lines: Lines<'_>) -> Option<Lines<'_>>
     None
 }
 
-// Whether a line makes a plan strict.
+/// Returns whether a line makes a plan strict.
 fn is_strict_line(words: Words<'_>) -> bool
     ensures { result ≡ is_strict_line words.entry }
 {
-    match words.only() {
+    match words.sole() {
         Some(word) => word == b"strict".as_slice(),
         None => false,
     }
 }
 
-// The jobs that the lines of a plan describe, which is strict or is not.
+/// Returns the jobs that the lines of a plan describe. The plan is strict or is not.
 fn jobs_in(alloc: Global, strict: bool, lines: Lines<'_>) -> Result<Vec<Job>, JobFault>
     ensures ok { IfOk result (λ jobs. said strict lines.entry ≡ Some (plan_lines jobs.items)) }
-    ensures bad { IsErrOf result JobFault.BadPlan → (jobs : List Job) → said strict lines.entry ≡ Some (plan_lines jobs) → ⊥ }
+    ensures bad { IsErrOf result JobFault.BadPlan → (jobs : List Job)
+        → said strict lines.entry ≡ Some (plan_lines jobs) → ⊥ }
     ensures cause { IfErr result (λ fault. (fault ≡ JobFault.BadPlan) ⊎ (fault ≡ JobFault.Memory)) }
 {
     let mut jobs = Jobs::new(alloc);
@@ -68,7 +71,7 @@ fn jobs_in(alloc: Global, strict: bool, lines: Lines<'_>) -> Result<Vec<Job>, Jo
     Ok(jobs.end()?)
 }
 
-// A job that has begun, with its steps so far.
+/// A job that has begun, with its steps so far.
 #[derive(Drop)]
 struct Begun {
     name: JobName,
@@ -79,25 +82,28 @@ struct Begun {
 }
 
 impl Begun {
-    // Adds a step.
+    /// Adds a step.
     fn push(&mut self, step: Step) -> Result<(), Memory>
         ensures steps { OnOk result (self.new.steps.items ≡ self.old.steps.items ++ step ∷ []) }
-        ensures name { (self.new.name ≡ self.old.name) × (self.new.parent ≡ self.old.parent) × (self.new.kind ≡ self.old.kind) × (self.new.after ≡ self.old.after) }
+        ensures name { (self.new.name ≡ self.old.name) × (self.new.parent ≡ self.old.parent)
+            × (self.new.kind ≡ self.old.kind) × (self.new.after ≡ self.old.after) }
     {
         self.steps.push(step)?;
         Ok(())
     }
 
-    // Whether no line comes after the one that begins it.
+    /// Returns whether no line has come after the one that begins the job.
     fn is_new(&self) -> bool
         ensures { IsTrue result ↔ ((self.now.after.items ≡ []) × (self.now.steps.items ≡ [])) }
     {
         self.after.is_empty() && self.steps.is_empty()
     }
 
-    // The job, which has all its steps.
+    /// Returns the job, which has all its steps.
     fn end(self) -> Job
-        ensures { (result.name ≡ self.name) × (result.parent ≡ self.parent) × (result.kind ≡ self.kind) × (result.after ≡ self.after.items) × (result.steps ≡ self.steps.items) }
+        ensures { (result.name ≡ self.name) × (result.parent ≡ self.parent)
+            × (result.kind ≡ self.kind) × (result.after ≡ self.after.items)
+            × (result.steps ≡ self.steps.items) }
     {
         Job {
             name: self.name,
@@ -109,7 +115,7 @@ impl Begun {
     }
 }
 
-// The jobs of the lines so far: those that have ended, and the one that has begun.
+/// The jobs of the lines so far: those that have ended, and the one that has begun.
 #[derive(Drop)]
 struct Jobs {
     ended: Vec<Job>,
@@ -130,7 +136,7 @@ impl Model for Jobs {
 }
 
 impl Jobs {
-    // Those of no line.
+    /// Returns the jobs of no line.
     fn new(alloc: Global) -> Jobs
         ensures { result ≡ [] }
     {
@@ -140,12 +146,16 @@ impl Jobs {
         }
     }
 
-    // Takes the meaning of the next line.
+    /// Takes the meaning of the next line.
     #[tactic(auto, using(crate::proofs::Grouping::said_silent, crate::proofs::Grouping::said_more))]
     fn read(&mut self, alloc: Global, strict: bool, line: &[u8]) -> Result<(), JobFault>
-        ensures ok { OnOk result ((lines : List (List ℕ)) → behind_all self.old (said strict (line.now ∷ lines)) ≡ behind_all self.new (said strict lines)) }
-        ensures bad { IsErrOf result JobFault.BadPlan → (lines : List (List ℕ)) (jobs : List Job) → behind_all self.old (said strict (line.now ∷ lines)) ≡ Some (plan_lines jobs) → ⊥ }
-        ensures cause { IfErr result (λ fault. (fault ≡ JobFault.BadPlan) ⊎ (fault ≡ JobFault.Memory)) }
+        ensures ok { OnOk result ((lines : List (List ℕ))
+            → behind_all self.old (said strict (line.now ∷ lines))
+            ≡ behind_all self.new (said strict lines)) }
+        ensures bad { IsErrOf result JobFault.BadPlan → (lines : List (List ℕ)) (jobs : List Job)
+            → behind_all self.old (said strict (line.now ∷ lines)) ≡ Some (plan_lines jobs) → ⊥ }
+        ensures cause { IfErr result
+            (λ fault. (fault ≡ JobFault.BadPlan) ⊎ (fault ≡ JobFault.Memory)) }
     {
         let Some(words) = Words::of_line(line) else {
             return Ok(());
@@ -154,12 +164,13 @@ impl Jobs {
         self.take(said)
     }
 
-    // Takes the next line. A step before the first job is no plan. Neither is a line of what a job
-    // comes after, unless it is right after the one that begins the job.
+    /// Takes the next line. Refuses a step before the first job. Refuses a line of what a job comes
+    /// after, unless it is right after the line that begins the job.
     fn take(&mut self, line: PlanLine) -> Result<(), JobFault>
         ensures ok { OnOk result (self.new ≡ self.old ++ line ∷ []) }
         ensures bad { IsErrOf result JobFault.BadPlan → IsStray self.old line }
-        ensures cause { IfErr result (λ fault. (fault ≡ JobFault.BadPlan) ⊎ (fault ≡ JobFault.Memory)) }
+        ensures cause { IfErr result
+            (λ fault. (fault ≡ JobFault.BadPlan) ⊎ (fault ≡ JobFault.Memory)) }
     {
         match line {
             PlanLine::Job(name, parent, kind) => Ok(self.begin(name, parent, kind)?),
@@ -168,7 +179,7 @@ impl Jobs {
         }
     }
 
-    // Takes what the job comes after that has just begun.
+    /// Takes the names of the jobs after which the job that has just begun comes.
     fn come_after(&mut self, names: Sequence<JobName>) -> Result<(), JobFault>
         ensures ok { OnOk result (self.new ≡ self.old ++ PlanLine.After names ∷ []) }
         ensures bad { IsErrOf result JobFault.BadPlan → IsStray self.old (PlanLine.After names) }
@@ -187,11 +198,12 @@ impl Jobs {
         Ok(())
     }
 
-    // Takes the next step of the job that has begun.
+    /// Takes the next step of the job that has begun.
     fn add(&mut self, step: Step) -> Result<(), JobFault>
         ensures ok { OnOk result (self.new ≡ self.old ++ PlanLine.Step step ∷ []) }
         ensures bad { IsErrOf result JobFault.BadPlan → IsStray self.old (PlanLine.Step step) }
-        ensures cause { IfErr result (λ fault. (fault ≡ JobFault.BadPlan) ⊎ (fault ≡ JobFault.Memory)) }
+        ensures cause { IfErr result
+            (λ fault. (fault ≡ JobFault.BadPlan) ⊎ (fault ≡ JobFault.Memory)) }
     {
         match &mut self.begun {
             None => Err(JobFault::BadPlan),
@@ -199,7 +211,7 @@ impl Jobs {
         }
     }
 
-    // Begins the next job.
+    /// Begins the next job.
     fn begin(&mut self, name: JobName, parent: Option<JobName>, kind: JobKind) -> Result<(), Memory>
         ensures ok { OnOk result (self.new ≡ self.old ++ PlanLine.Job name parent kind ∷ []) }
     {
@@ -216,7 +228,7 @@ impl Jobs {
         Ok(())
     }
 
-    // All jobs, if no line follows.
+    /// Returns all jobs, if no line follows.
     fn end(self) -> Result<Vec<Job>, Memory>
         ensures { IfOk result (λ jobs. plan_lines jobs.items ≡ self) }
     {

@@ -44,8 +44,10 @@ impl Plan {
     #[tactic(auto, using(crate::proofs::Grouping::only_plan))]
     pub fn read(alloc: Global, text: &[u8]) -> Result<Plan, JobFault>
         ensures plan { IfOk result (λ plan. IsPlanOf text.now plan) }
-        ensures bad_plan { IsErrOf result JobFault.BadPlan → (jobs : List Job) → IsPlanOf text.now jobs → ⊥ }
-        ensures cause { IfErr result (λ fault. (fault ≡ JobFault.BadPlan) ⊎ (fault ≡ JobFault.Memory)) }
+        ensures bad_plan { IsErrOf result JobFault.BadPlan → (jobs : List Job)
+            → IsPlanOf text.now jobs → ⊥ }
+        ensures cause { IfErr result
+            (λ fault. (fault ≡ JobFault.BadPlan) ⊎ (fault ≡ JobFault.Memory)) }
     {
         if text.len() > LONGEST_PLAN {
             return Err(JobFault::BadPlan);

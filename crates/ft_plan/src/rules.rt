@@ -8,7 +8,7 @@ ghost use Rattle.ft_plan.specs.Plans.{is_plan, most_jobs, is_free, is_free_kind,
 use crate::job::{Job, JobKind, Step};
 use ft_posix::Call;
 
-// The most jobs of a plan that is strict, and of one that is not.
+/// The most jobs of a plan that is strict, and of one that is not.
 const MOST_STRICT_JOBS: usize = 4096;
 
 const MOST_FREE_JOBS: usize = 64;
@@ -26,7 +26,7 @@ pub fn is_plan(jobs: &[Job]) -> bool
     are_jobs(jobs)
 }
 
-// The most jobs of a plan of these.
+/// Returns the most jobs that a plan of these jobs may have.
 fn most_jobs(jobs: &[Job]) -> usize
     ensures { result ≡ most_jobs jobs.now }
 {
@@ -37,28 +37,28 @@ fn most_jobs(jobs: &[Job]) -> usize
     }
 }
 
-// Whether the calls of one of the jobs may all fail.
+/// Returns whether the calls of one of the jobs may all fail.
 fn has_free(jobs: &[Job]) -> bool
     ensures { result ≡ list_any is_free jobs.now }
 {
     jobs.iter().any(|job| is_free(job))
 }
 
-// Whether the calls of a job may all fail.
+/// Returns whether the calls of a job may all fail.
 fn is_free(job: &Job) -> bool
     ensures { result ≡ is_free job.now }
 {
     matches!(job.kind, JobKind::Free)
 }
 
-// Whether each of the jobs has the steps that it may have.
+/// Returns whether each of the jobs has the steps that it may have.
 fn are_jobs(jobs: &[Job]) -> bool
     ensures { result ≡ list_all (is_job jobs.now) jobs.now }
 {
     jobs.iter().all(|job| is_job(jobs, job))
 }
 
-// Whether each job has a name of its own, and is under one before it if it names one.
+/// Returns whether each job has a name of its own, and is under an earlier job if it names one.
 #[tactic(auto, using(crate::proofs::Behind::behind_next))]
 fn are_opened(jobs: &[Job]) -> bool
     ensures { result ≡ all_behind is_opened [] jobs.now }
@@ -71,7 +71,8 @@ fn are_opened(jobs: &[Job]) -> bool
     true
 }
 
-// The same of one job after others.
+/// Returns whether a job has a name that none of the jobs before it has, and names only earlier
+/// jobs: the one that it is under, and those that it comes after.
 fn is_opened(before: &[Job], job: &Job) -> bool
     ensures { result ≡ is_opened before.now job.now }
 {
@@ -83,7 +84,7 @@ fn is_opened(before: &[Job], job: &Job) -> bool
         && comes_after(before, job)
 }
 
-// Whether each job that this one comes after is one of these, and is under the same one.
+/// Returns whether each job that this one comes after is one of these, and has the same parent.
 fn comes_after(before: &[Job], job: &Job) -> bool
     ensures { result ≡ comes_after before.now job.now }
 {
@@ -93,14 +94,14 @@ fn comes_after(before: &[Job], job: &Job) -> bool
         .all(|name| has_sibling(before, job, name.as_bytes()))
 }
 
-// Whether one of the jobs has this name, and is under the same one as this job.
+/// Returns whether one of the jobs has this name, and the same parent as this job.
 fn has_sibling(before: &[Job], job: &Job, name: &[u8]) -> bool
     ensures { result ≡ list_any (is_sibling job.now.parent name.now) before.now }
 {
     before.iter().any(|other| other.name.as_bytes() == name && is_same_parent(other, job))
 }
 
-// Whether two jobs are under the same one, or both under none.
+/// Returns whether two jobs have the same parent, or both have none.
 fn is_same_parent(job: &Job, other: &Job) -> bool
     ensures { result ≡ is_same_parent job.now.parent other.now.parent }
 {
@@ -111,14 +112,14 @@ fn is_same_parent(job: &Job, other: &Job) -> bool
     }
 }
 
-// Whether one of the jobs has this name.
+/// Returns whether one of the jobs has this name.
 fn is_named(jobs: &[Job], name: &[u8]) -> bool
     ensures { result ≡ is_named jobs.now name.now }
 {
     jobs.iter().any(|job| job.name.as_bytes() == name)
 }
 
-// Whether the steps of a job are those that it may have.
+/// Returns whether the steps of a job are those that it may have.
 fn is_job(jobs: &[Job], job: &Job) -> bool
     ensures { result ≡ is_job jobs.now job.now }
 {
@@ -129,7 +130,7 @@ fn is_job(jobs: &[Job], job: &Job) -> bool
     starts_subjobs(jobs, job)
 }
 
-// Whether it starts its subjobs in one step if it has any, and else in none.
+/// Returns whether a job starts its subjobs in one step if it has any, and in none otherwise.
 fn starts_subjobs(jobs: &[Job], job: &Job) -> bool
     ensures { result ≡ starts_subjobs jobs.now job.now }
 {
@@ -142,14 +143,14 @@ fn starts_subjobs(jobs: &[Job], job: &Job) -> bool
     count == wanted
 }
 
-// Whether the job of this name has subjobs.
+/// Returns whether the job of this name has subjobs.
 fn has_subjobs(jobs: &[Job], name: &[u8]) -> bool
     ensures { result ≡ list_any (is_subjob_of name.now) jobs.now }
 {
     jobs.iter().any(|job| is_subjob_of(name, job))
 }
 
-// Whether the job is a subjob of the one of this name.
+/// Returns whether the job is a subjob of the one of this name.
 fn is_subjob_of(name: &[u8], job: &Job) -> bool
     ensures { result ≡ is_subjob_of name.now job.now }
 {
@@ -159,7 +160,7 @@ fn is_subjob_of(name: &[u8], job: &Job) -> bool
     }
 }
 
-// Whether the last step is a commit or an abort, and no other is.
+/// Returns whether the last step is a commit or an abort, and no other is.
 #[tactic(auto, using(crate::proofs::Behind::ends_last_is))]
 fn ends_last(steps: &[Step]) -> bool
     ensures { result ≡ ends_last steps.now }
@@ -170,21 +171,21 @@ fn ends_last(steps: &[Step]) -> bool
     }
 }
 
-// Whether one of the steps ends its job.
+/// Returns whether one of the steps ends its job.
 fn has_end(steps: &[Step]) -> bool
     ensures { result ≡ list_any is_end steps.now }
 {
     steps.iter().any(|step| is_end(step))
 }
 
-// Whether a step ends its job.
+/// Returns whether a step ends its job.
 fn is_end(step: &Step) -> bool
     ensures { result ≡ is_end step.now }
 {
     matches!(step, Step::Commit | Step::Abort)
 }
 
-// How many steps start the subjobs.
+/// Returns how many steps start the subjobs.
 fn subs_count(steps: &[Step]) -> usize
     ensures { result ≡ count_by is_subs steps.now }
 {
@@ -197,14 +198,14 @@ fn subs_count(steps: &[Step]) -> usize
     count
 }
 
-// Whether a step starts the subjobs.
+/// Returns whether a step starts the subjobs.
 fn is_subs(step: &Step) -> bool
     ensures { result ≡ is_subs step.now }
 {
     matches!(step, Step::Subs)
 }
 
-// Whether each call on what a step opened is on what an earlier step of these opened.
+/// Returns whether each call on a descriptor is on one that an earlier step of these opened.
 #[tactic(auto, using(crate::proofs::Behind::behind_next))]
 fn are_on_opened(steps: &[Step]) -> bool
     ensures { result ≡ all_behind is_on_opened [] steps.now }
@@ -217,7 +218,8 @@ fn are_on_opened(steps: &[Step]) -> bool
     true
 }
 
-// The same of one step after others.
+/// Returns whether a step that calls on a descriptor names one of the steps before it, which opens
+/// a file. Returns true for any other step.
 fn is_on_opened(before: &[Step], step: &Step) -> bool
     ensures { result ≡ is_on_opened before.now step.now }
 {
@@ -227,7 +229,7 @@ fn is_on_opened(before: &[Step], step: &Step) -> bool
     }
 }
 
-// Whether there is a step, which opens a file.
+/// Returns whether there is a step, and the step opens a file.
 fn is_opener(step: Option<&Step>) -> bool
     ensures { result ≡ option_map_or is_open (option_copied step.entry) false }
 {
@@ -237,7 +239,7 @@ fn is_opener(step: Option<&Step>) -> bool
     )
 }
 
-// The step of this number. The first has the number 1.
+/// Returns the step of this number. The first has the number 1.
 fn step_at(steps: &[Step], number: u64) -> Option<&Step>
     ensures { option_copied result ≡ step_at steps.now number }
 {
@@ -245,7 +247,7 @@ fn step_at(steps: &[Step], number: u64) -> Option<&Step>
     steps.get(before)
 }
 
-// The descriptor that a call is on, or 0.
+/// Returns the descriptor that a call is on, or 0.
 fn descriptor(call: &Call) -> u64
     ensures { result ≡ descriptor call.now }
 {

@@ -10,7 +10,7 @@ use Rattle.ft_cells.specs.Entries.{entry_at}
 use Rattle.ft_cells.specs.declared.node.Node.{Node}
 use Rattle.ft_cells.specs.declared.cell.Cell.{Cell}
 use Rattle.ft_cells.specs.declared.cell.Cell.TheVariants.{Entry, Names, Parent, Links, Bytes, Fd, DirAttributes, FileAttributes}
-use Rattle.ft_cells.specs.Cells.{Cells, DirCells, dir_entry, dir_names, dir_of, stored_dirs, entry_of, parent_of}
+use Rattle.ft_cells.specs.Cells.{Cells, DirCells, dir_entry, dir_names, dir_of, directory_count, entry_of, parent_of}
 use Rattle.ft_tree.specs.Views.{view_of}
 use Rattle.ft_cells.specs.Looks.{View, Agree, answer, looked_at, answer-agree, looked_at-agree}
 use Rattle.ft_tree.specs.Held.{held}
@@ -93,7 +93,7 @@ tree-values cells has = same_tree has.with_places cells has.same has.sound.tree
 
 -- what is looked at by the call with stamp k
 abbrev pub looked : Cells → ℕ → Call → List Cell
-looked cells k call = looked_at (steps cells.limits (stored_dirs cells) k call) (view_of cells)
+looked cells k call = looked_at (steps cells.limits (directory_count cells) k call) (view_of cells)
 
 -- the call does the same in both
 pub record DoesAlike (s t : Cells) (k : ℕ) (call : Call) : Type 0 where
@@ -103,8 +103,8 @@ pub record DoesAlike (s t : Cells) (k : ℕ) (call : Call) : Type 0 where
 -- so its accesses are the same
 pub accesses-alike : (s t : Cells) (k : ℕ) (call : Call) → DoesAlike s t k call → accesses_of s k call ≡ accesses_of t k call
 accesses-alike s t k call alike =
-    ap listed (with_accesses-parts (steps s.limits (stored_dirs s) k call) empty (view_of s)) ∙ (λ i. listed (with_writes (with_looks empty (alike.looks i)) (alike.outcomes i).writes))
-    ∙ sym (ap listed (with_accesses-parts (steps t.limits (stored_dirs t) k call) empty (view_of t)))
+    ap listed (with_accesses-parts (steps s.limits (directory_count s) k call) empty (view_of s)) ∙ (λ i. listed (with_writes (with_looks empty (alike.looks i)) (alike.outcomes i).writes))
+    ∙ sym (ap listed (with_accesses-parts (steps t.limits (directory_count t) k call) empty (view_of t)))
 
 module _ (steps-alike : StepsAlike) (stored-enough : StoredEnough) where
   -- more than enough is enough
@@ -114,15 +114,15 @@ module _ (steps-alike : StepsAlike) (stored-enough : StoredEnough) where
   -- on trees that show the same where it looks a call does the same
   pub does-alike : (s t : Cells) → IsTree (entry_of s) (parent_of s) → IsTree (entry_of t) (parent_of t) → (k : ℕ) (call : Call) → s.limits ≡ t.limits → Agree (view_of s) (view_of t) (looked s k call) → DoesAlike s t k call
   does-alike s t tree_s tree_t k call limits agree =
-      let n = stored_dirs s + stored_dirs t in
+      let n = directory_count s + directory_count t in
       let enough_s = stored-enough s tree_s in
       let enough_t = stored-enough t tree_t in
-      let from = steps-alike s.limits s tree_s (stored_dirs s) n enough_s (enough s (stored_dirs s) n enough_s (omega arith)) k call in
-      let to = steps-alike s.limits t tree_t n (stored_dirs t) (enough t (stored_dirs t) n enough_t (omega arith)) enough_t k call in
+      let from = steps-alike s.limits s tree_s (directory_count s) n enough_s (enough s (directory_count s) n enough_s (omega arith)) k call in
+      let to = steps-alike s.limits t tree_t n (directory_count t) (enough t (directory_count t) n enough_t (omega arith)) enough_t k call in
       let there : Agree (view_of s) (view_of t) (looked_at (steps s.limits n k call) (view_of s)) = subst (Agree (view_of s) (view_of t)) from.1 agree in
       record {
-        outcomes = from.0 ∙ answer-agree (steps s.limits n k call) (view_of s) (view_of t) there ∙ to.0 ∙ ap (λ l. answer (steps l (stored_dirs t) k call) (view_of t)) limits;
-        looks = from.1 ∙ looked_at-agree (steps s.limits n k call) (view_of s) (view_of t) there ∙ to.1 ∙ ap (λ l. looked_at (steps l (stored_dirs t) k call) (view_of t)) limits;
+        outcomes = from.0 ∙ answer-agree (steps s.limits n k call) (view_of s) (view_of t) there ∙ to.0 ∙ ap (λ l. answer (steps l (directory_count t) k call) (view_of t)) limits;
+        looks = from.1 ∙ looked_at-agree (steps s.limits n k call) (view_of s) (view_of t) there ∙ to.1 ∙ ap (λ l. looked_at (steps l (directory_count t) k call) (view_of t)) limits;
       }
 
   -- and so it does on trees of the same values

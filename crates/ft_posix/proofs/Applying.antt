@@ -26,7 +26,7 @@ use Rattle.ft_posix.specs.declared.intent.Intent.{Intent}
 use Rattle.ft_body.specs.declared.TheConstants.{LARGEST_SIZE}
 use Rattle.ft_body.specs.Bytes.{fitting, written, resized}
 use Rattle.ft_tree.specs.Held.{held}
-use Rattle.ft_posix.specs.Comes.{write_of, writes_of, outcome_of}
+use Rattle.ft_posix.specs.Computes.{write_of, writes_of, outcome_of}
 use Rattle.ft_posix.specs.Edits.{edited, CanEdit, CanEditAll, edit_cell, IsOther, Apart, IsOtherThan, AreApart, CanPut, CanPutAll, CanBeMade, SameOn, EditingLaw}
 use Rattle.ft_posix.specs.Within.{IsWithin, AreWithin}
 use Rattle.ft_posix.proofs.Edited.{write-cell, same-on, same-edited}

@@ -1,7 +1,7 @@
 -- Which directories are met on the way up from one, and how far it is.
 use Rattle.std.proofs.Common.{◌≡◌, ◌≢◌, ◌≤◌, ℕ, suc, Option, Some}
 use Rattle.ft_cells.specs.declared.limits.TreeLimits.{TreeLimits}
-use Rattle.ft_cells.specs.Cells.{Cells, entry_of, parent_of, stored_dirs}
+use Rattle.ft_cells.specs.Cells.{Cells, entry_of, parent_of, directory_count}
 use Rattle.ft_tree.specs.Views.{view_of}
 use Rattle.ft_cells.specs.Looks.{Looks, answer, looked_at}
 use Rattle.ft_tree.specs.Sound.{Hangs, the_root, under, IsTree}
@@ -28,7 +28,7 @@ Alike cells s t = (answer s (view_of cells) ≡ answer t (view_of cells)) × (lo
 
 -- as many directories as are stored are enough
 abbrev pub StoredEnough : Type 0
-StoredEnough = (cells : Cells) → IsTree (entry_of cells) (parent_of cells) → IsEnough cells (stored_dirs cells)
+StoredEnough = (cells : Cells) → IsTree (entry_of cells) (parent_of cells) → IsEnough cells (directory_count cells)
 
 -- where two numbers are enough, a call does the same with either
 abbrev pub StepsAlike : Type 0

@@ -17,11 +17,11 @@ use Rattle.ft_cells.specs.declared.node.Node.TheVariants.{Dir as DirNode, File a
 use Rattle.ft_cells.specs.declared.open_file.OpenFile.{OpenFile}
 use Rattle.ft_cells.specs.declared.attributes.Attributes.{Attributes}
 use Rattle.ft_cells.specs.declared.attributes.Timestamp.{Timestamp}
-use Rattle.ft_cells.specs.Cells.{Cells, Contents, no_contents, entry_of, names_of, parent_of, links_of, open_of, stored_dirs}
+use Rattle.ft_cells.specs.Cells.{Cells, Contents, no_contents, entry_of, names_of, parent_of, links_of, open_of, directory_count}
 use Rattle.ft_tree.specs.Views.{view_of}
 use Rattle.ft_cells.specs.Looks.{Looks, Answer, answer, answer-then, or_else}
-use Rattle.ft_cells.specs.declared.node.Spot.{Spot}
-use Rattle.ft_cells.specs.declared.node.Spot.TheVariants.{Named as AtName, Itself}
+use Rattle.ft_cells.specs.declared.node.PathEnd.{PathEnd}
+use Rattle.ft_cells.specs.declared.node.PathEnd.TheVariants.{Named as AtName, Itself}
 use Rattle.ft_tree.specs.Walk.{walk}
 use Rattle.ft_tree.specs.Sound.{Hangs, under, AreSoundCells}
 use Rattle.ft_posix.specs.declared.TheConstants.{LAST_OFFSET}
@@ -112,13 +112,13 @@ module _ (cells : Cells) where
     unless-changes (Some e) go h = no_change _
 
     -- mkdir makes a directory, or changes nothing
-    make_dir-changes : (mode : Option ℕ) (spot : Spot) → IsSpot cells spot → ComesTo (make_dir k mode spot)
+    make_dir-changes : (mode : Option ℕ) (spot : PathEnd) → IsSpot cells spot → ComesTo (make_dir k mode spot)
     make_dir-changes mode (AtName entry None slash) h = makes mode entry.dir entry.name h.0 (sym h.1)
     make_dir-changes mode (AtName entry (Some x) slash) h = no_change _
     make_dir-changes mode (Itself d) h = no_change _
 
     -- rmdir removes an empty directory, or changes nothing
-    remove_dir-changes : (spot : Spot) → IsSpot cells spot → ComesTo (remove_dir spot)
+    remove_dir-changes : (spot : PathEnd) → IsSpot cells spot → ComesTo (remove_dir spot)
     remove_dir-changes (AtName entry None slash) h = no_change _
     remove_dir-changes (AtName entry (Some (FileNode form i)) slash) h = no_change _
     remove_dir-changes (Itself d) h = no_change _
@@ -129,14 +129,14 @@ module _ (cells : Cells) where
         by_names (e ∷ es) is = no_change _
 
     -- list changes nothing
-    list_dir-changes : (spot : Spot) → IsSpot cells spot → ComesTo (list_dir spot)
+    list_dir-changes : (spot : PathEnd) → IsSpot cells spot → ComesTo (list_dir spot)
     list_dir-changes (AtName entry None slash) h = no_change _
     list_dir-changes (AtName entry (Some (FileNode form i)) slash) h = no_change _
     list_dir-changes (AtName entry (Some (DirNode i)) slash) h = no_change _
     list_dir-changes (Itself d) h = no_change _
 
     -- nor does stat
-    stat_spot-changes : (spot : Spot) → IsSpot cells spot → ComesTo (stat_spot spot)
+    stat_spot-changes : (spot : PathEnd) → IsSpot cells spot → ComesTo (stat_spot spot)
     stat_spot-changes (AtName entry None slash) h = no_change _
     stat_spot-changes (AtName entry (Some (FileNode Regular i)) slash) h = no_change _
     stat_spot-changes (AtName entry (Some (FileNode LinkForm i)) slash) h = no_change _
@@ -161,7 +161,7 @@ module _ (cells : Cells) where
     open_node-changes flags d name (FileNode LinkForm i) is = no_change _
 
     -- open makes a file, opens one, or changes nothing
-    open_spot-changes : (flags : OpenFlags) (spot : Spot) → IsSpot cells spot → Change k reads (open_spot k flags spot)
+    open_spot-changes : (flags : OpenFlags) (spot : PathEnd) → IsSpot cells spot → Change k reads (open_spot k flags spot)
     open_spot-changes flags (AtName entry None slash) h =
         elim (flags.create && not slash) as (λ b. Change k reads (cond b (creates k flags entry) (failed ENOENT))) [
           | true ↦ creates_file flags entry.dir entry.name h.0 (sym h.1)
@@ -220,7 +220,7 @@ module _ (cells : Cells) where
     cut_file-changes : (i size : ℕ) → Named cells i → ComesTo (cut_file i size)
     cut_file-changes i size named = on_files Done _ (sets_contents i _ named, tt) (tt, tt) (λ x. x) (λ x. absurd x)
 
-    truncate_spot-changes : (size : ℕ) (spot : Spot) → IsSpot cells spot → ComesTo (truncate_spot size spot)
+    truncate_spot-changes : (size : ℕ) (spot : PathEnd) → IsSpot cells spot → ComesTo (truncate_spot size spot)
     truncate_spot-changes size (AtName entry None slash) h = no_change _
     truncate_spot-changes size (AtName entry (Some (DirNode i)) slash) h = no_change _
     truncate_spot-changes size (AtName entry (Some (FileNode LinkForm i)) slash) h = no_change _
@@ -243,7 +243,7 @@ module _ (cells : Cells) where
     set_time-changes : (time : Timestamp) (i : ℕ) → Named cells i → ComesTo (set_time time i)
     set_time-changes time i named = on_files Done _ (sets_contents i _ named, tt) (tt, tt) (λ x. x) (λ x. absurd x)
 
-    time_spot-changes : (fault : Errno) (time : Timestamp) (spot : Spot) → IsSpot cells spot → ComesTo (time_spot fault time spot)
+    time_spot-changes : (fault : Errno) (time : Timestamp) (spot : PathEnd) → IsSpot cells spot → ComesTo (time_spot fault time spot)
     time_spot-changes fault time (AtName entry None slash) h = no_change _
     time_spot-changes fault time (AtName entry (Some (DirNode i)) slash) h = no_change _
     time_spot-changes fault time (AtName entry (Some (FileNode LinkForm i)) slash) h = no_change _
@@ -251,7 +251,7 @@ module _ (cells : Cells) where
     time_spot-changes fault time (Itself d) h = no_change _
 
     -- symlink makes a link
-    make_link-changes : (target : List ℕ) (spot : Spot) → IsSpot cells spot → ComesTo (make_link k target spot)
+    make_link-changes : (target : List ℕ) (spot : PathEnd) → IsSpot cells spot → ComesTo (make_link k target spot)
     make_link-changes target (AtName entry None slash) h =
         elim slash as (λ b. Change k reads (cond b (failed ENOENT) (makes_link k target entry))) [
           | true ↦ no_change _
@@ -261,7 +261,7 @@ module _ (cells : Cells) where
     make_link-changes target (Itself d) h = no_change _
 
     -- readlink changes nothing
-    read_link-changes : (spot : Spot) → IsSpot cells spot → ComesTo (read_link spot)
+    read_link-changes : (spot : PathEnd) → IsSpot cells spot → ComesTo (read_link spot)
     read_link-changes (AtName entry None slash) h = no_change _
     read_link-changes (AtName entry (Some (DirNode i)) slash) h = no_change _
     read_link-changes (AtName entry (Some (FileNode Regular i)) slash) h = no_change _
@@ -269,7 +269,7 @@ module _ (cells : Cells) where
     read_link-changes (Itself d) h = no_change _
 
     -- link gives a file another entry
-    link_new-changes : (limits : TreeLimits) (form : Form) (i : ℕ) → Named cells i → (spot : Spot) → IsSpot cells spot → ComesTo (link_new limits form i spot)
+    link_new-changes : (limits : TreeLimits) (form : Form) (i : ℕ) → Named cells i → (spot : PathEnd) → IsSpot cells spot → ComesTo (link_new limits form i spot)
     link_new-changes limits form i named (AtName entry None slash) h =
         either-changes slash (Answer (failed ENOENT)) _ (no_change _)
         (elim (nat_lt (links_of cells i) limits.links) as (λ b. Change k reads (cond b (linked form i entry (links_of cells i)) (failed EMLINK))) [ true ↦ links_file i entry.dir entry.name named h.0 (sym h.1) | false ↦ no_change _ ])
@@ -277,7 +277,7 @@ module _ (cells : Cells) where
     link_new-changes limits form i named (Itself d) h = no_change _
 
     -- unlink takes an entry of a file away
-    unlink_spot-changes : (spot : Spot) → IsSpot cells spot → ComesTo (unlink_spot spot)
+    unlink_spot-changes : (spot : PathEnd) → IsSpot cells spot → ComesTo (unlink_spot spot)
     unlink_spot-changes (AtName entry None slash) h = no_change _
     unlink_spot-changes (AtName entry (Some (DirNode i)) slash) h = no_change _
     unlink_spot-changes (AtName entry (Some (FileNode form i)) slash) h = unlinks entry.dir entry.name i (sym h.1)
@@ -292,7 +292,7 @@ module _ (cells : Cells) where
         by_number false is = each (λ same. false≢true (sym is ∙ eq-eqb i j same))
 
     -- rename moves the entry of a file
-    rename_file-changes : (d : ℕ) (name : List ℕ) (form : Form) (i : ℕ) → entry_of cells d name ≡ Some (FileNode form i) → (spot : Spot) → IsSpot cells spot → ComesTo (rename_file (entry_at d name) form i spot)
+    rename_file-changes : (d : ℕ) (name : List ℕ) (form : Form) (i : ℕ) → entry_of cells d name ≡ Some (FileNode form i) → (spot : PathEnd) → IsSpot cells spot → ComesTo (rename_file (entry_at d name) form i spot)
     rename_file-changes d name form i is (AtName entry None slash) h =
         elim slash as (λ b. Change k reads (cond b (failed ENOTDIR) (renamed (entry_at d name) (FileNode form i) entry []))) [
           | true ↦ no_change _
@@ -305,24 +305,24 @@ module _ (cells : Cells) where
 
     module _ (sound : AreSoundCells cells) where
       -- a failed walk changes nothing
-      spot-changes : (go : Spot → Looks Outcome) → ((spot : Spot) → IsSpot cells spot → ComesTo (go spot)) → (r : Result Spot Errno) → EndsWell cells r → ComesTo (or_else failed go r)
+      spot-changes : (go : PathEnd → Looks Outcome) → ((spot : PathEnd) → IsSpot cells spot → ComesTo (go spot)) → (r : Result PathEnd Errno) → EndsWell cells r → ComesTo (or_else failed go r)
       spot-changes go each (Ok spot) h = each spot h
       spot-changes go each (Err e) h = no_change _
 
       -- a call that walks comes to its change where the walk ends
-      from_parts-changes : (follow : Bool) (go : Spot → Looks Outcome) → ((spot : Spot) → IsSpot cells spot → ComesTo (go spot)) → (parts : Result Parts Errno) → ComesTo (from_parts follow parts go)
+      from_parts-changes : (follow : Bool) (go : PathEnd → Looks Outcome) → ((spot : PathEnd) → IsSpot cells spot → ComesTo (go spot)) → (parts : Result Parts Errno) → ComesTo (from_parts follow parts go)
       from_parts-changes follow go each (Err e) = no_change _
       from_parts-changes follow go each (Ok parts) =
           subst (Change k reads) (sym (answer-then (walk follow parts.names parts.trailing) (or_else failed go) (view_of cells)))
           (spot-changes go each _ (walk-ends cells sound.tree follow parts.names parts.trailing))
 
       -- with the faults of its arguments
-      from_judged-changes : (fault : Option Errno) (follow : Bool) (go : Spot → Looks Outcome) → ((spot : Spot) → IsSpot cells spot → ComesTo (go spot)) → (parts : Result Parts Errno) → ComesTo (from_judged fault follow parts go)
+      from_judged-changes : (fault : Option Errno) (follow : Bool) (go : PathEnd → Looks Outcome) → ((spot : PathEnd) → IsSpot cells spot → ComesTo (go spot)) → (parts : Result Parts Errno) → ComesTo (from_judged fault follow parts go)
       from_judged-changes fault follow go each (Err e) = no_change _
       from_judged-changes fault follow go each (Ok parts) = unless-changes fault (from_parts follow (Ok parts) go) (from_parts-changes follow go each (Ok parts))
 
       -- chmod and chown set attributes, those of what is found
-      change_spot-changes : (change : Attributes → Attributes) (at_link : Outcome) → Change k reads at_link → (spot : Spot) → IsSpot cells spot → ComesTo (change_spot change at_link spot)
+      change_spot-changes : (change : Attributes → Attributes) (at_link : Outcome) → Change k reads at_link → (spot : PathEnd) → IsSpot cells spot → ComesTo (change_spot change at_link spot)
       change_spot-changes change at_link linked (AtName entry None slash) h = no_change _
       change_spot-changes change at_link linked (AtName entry (Some (DirNode i)) slash) h = change_dir-changes change i (under i entry.dir (sound.tree.leads entry.dir entry.name i (sym h.1)) h.0)
       change_spot-changes change at_link linked (AtName entry (Some (FileNode Regular i)) slash) h = change_file-changes change i (by_entry entry.dir entry.name i (sym h.1))
@@ -345,7 +345,7 @@ module _ (cells : Cells) where
           or_else-changes (λ size. from_parts true (Ok parts) (truncate_spot size)) (to_size limits len) (λ size. from_parts-changes true (truncate_spot size) (truncate_spot-changes size) (Ok parts))
 
       -- link, with two paths
-      link_old-changes : (limits : TreeLimits) (new : Parts) (spot : Spot) → IsSpot cells spot → ComesTo (link_old limits new spot)
+      link_old-changes : (limits : TreeLimits) (new : Parts) (spot : PathEnd) → IsSpot cells spot → ComesTo (link_old limits new spot)
       link_old-changes limits new (AtName entry None slash) h = no_change _
       link_old-changes limits new (AtName entry (Some (DirNode i)) slash) h = no_change _
       link_old-changes limits new (AtName entry (Some (FileNode form i)) slash) h = from_parts-changes false (link_new limits form i) (link_new-changes limits form i (by_entry entry.dir entry.name i (sym h.1))) (Ok new)
@@ -367,7 +367,7 @@ module _ (cells : Cells) where
             by_met false met = each (climb-avoids cells sound.tree n i e h (enough e h) other met)
 
         -- rename moves the entry of a directory
-        rename_dir-changes : (d : ℕ) (name : List ℕ) (i : ℕ) → entry_of cells d name ≡ Some (DirNode i) → (spot : Spot) → IsSpot cells spot → ComesTo (rename_dir n (entry_at d name) i spot)
+        rename_dir-changes : (d : ℕ) (name : List ℕ) (i : ℕ) → entry_of cells d name ≡ Some (DirNode i) → (spot : PathEnd) → IsSpot cells spot → ComesTo (rename_dir n (entry_at d name) i spot)
         rename_dir-changes d name i is (AtName entry None slash) h =
             unless_below-changes i entry.dir (not_under (parent_of cells) sound.tree.top i d (sound.tree.leads d name i is)) h.0 _ (λ clear. moves_dir d name i entry.dir entry.name is h.0 clear (sym h.1))
         rename_dir-changes d name i is (AtName entry (Some (FileNode kind j)) slash) h = no_change _
@@ -381,7 +381,7 @@ module _ (cells : Cells) where
         rename_dir-changes d name i is (Itself e) h = no_change _
 
         -- rename, with two paths
-        rename_old-changes : (new : Parts) (spot : Spot) → IsSpot cells spot → ComesTo (rename_old n new spot)
+        rename_old-changes : (new : Parts) (spot : PathEnd) → IsSpot cells spot → ComesTo (rename_old n new spot)
         rename_old-changes new (AtName entry None slash) h = no_change _
         rename_old-changes new (AtName entry (Some (FileNode form i)) slash) h = from_parts-changes false (rename_file entry form i) (rename_file-changes entry.dir entry.name form i (sym h.1)) (Ok new)
         rename_old-changes new (AtName entry (Some (DirNode i)) slash) h = from_parts-changes false (rename_dir n entry i) (rename_dir-changes entry.dir entry.name i (sym h.1)) (Ok new)
@@ -421,7 +421,7 @@ call-changes cells sound k (Stat path) = from_parts-changes cells k false sound 
 call-changes cells sound k (Fstat fd) = with_open-changes cells k false fd any_open fstat_open (λ o is. no_change _)
 call-changes cells sound k (Link old new) = link_parts-changes cells k false sound cells.limits (parts_of old) (parts_of new)
 call-changes cells sound k (Unlink path) = from_parts-changes cells k false sound false unlink_spot (unlink_spot-changes cells k false) (parts_of path)
-call-changes cells sound k (Rename old new) = rename_parts-changes cells k false sound (stored_dirs cells) (stored-enough cells sound.tree) (parts_of old) (parts_of new)
+call-changes cells sound k (Rename old new) = rename_parts-changes cells k false sound (directory_count cells) (stored-enough cells sound.tree) (parts_of old) (parts_of new)
 call-changes cells sound k (Symlink target path) = from_judged-changes cells k false sound (target_fault target) false (make_link k target) (make_link-changes cells k false target) (parts_of path)
 call-changes cells sound k (Readlink path) = from_parts-changes cells k false sound false read_link (read_link-changes cells k false) (parts_of path)
 call-changes cells sound k (Lstat path) = from_parts-changes cells k false sound false stat_spot (stat_spot-changes cells k false) (parts_of path)

@@ -17,8 +17,8 @@ use Rattle.ft_cells.specs.declared.cell.Cell.TheVariants.{Parent}
 use Rattle.ft_cells.specs.Cells.{Cells, entry_of, parent_of}
 use Rattle.ft_tree.specs.Views.{view_of}
 use Rattle.ft_cells.specs.Looks.{Shows, View, Looks, Answer, Look, then, or_else, answer, looked_at, answer-then}
-use Rattle.ft_cells.specs.declared.node.Spot.{Spot}
-use Rattle.ft_cells.specs.declared.node.Spot.TheVariants.{Named, Itself}
+use Rattle.ft_cells.specs.declared.node.PathEnd.{PathEnd}
+use Rattle.ft_cells.specs.declared.node.PathEnd.TheVariants.{Named, Itself}
 use Rattle.ft_tree.specs.Walk.{walk}
 use Rattle.ft_tree.specs.Tidy.{tidy}
 use Rattle.ft_tree.specs.Sound.{Hangs, the_root, under, IsTree, AreSoundCells}
@@ -158,12 +158,12 @@ module _ (cells : Cells) where
             ∙ met))
 
     -- what goes on alike from each spot of the tree is alike behind a walk
-    spot-alike : (go other : Spot → Looks Outcome) → ((spot : Spot) → IsSpot cells spot → Alike cells (go spot) (other spot)) → (r : Result Spot Errno) → EndsWell cells r → Alike cells (or_else failed go r) (or_else failed other r)
+    spot-alike : (go other : PathEnd → Looks Outcome) → ((spot : PathEnd) → IsSpot cells spot → Alike cells (go spot) (other spot)) → (r : Result PathEnd Errno) → EndsWell cells r → Alike cells (or_else failed go r) (or_else failed other r)
     spot-alike go other each (Ok spot) h = each spot h
     spot-alike go other each (Err e) h = (refl, refl)
 
     -- and behind a path
-    from_parts-alike : (follow : Bool) (go other : Spot → Looks Outcome) → ((spot : Spot) → IsSpot cells spot → Alike cells (go spot) (other spot)) → (parts : Result Parts Errno) → Alike cells (from_parts follow parts go) (from_parts follow parts other)
+    from_parts-alike : (follow : Bool) (go other : PathEnd → Looks Outcome) → ((spot : PathEnd) → IsSpot cells spot → Alike cells (go spot) (other spot)) → (parts : Result Parts Errno) → Alike cells (from_parts follow parts go) (from_parts follow parts other)
     from_parts-alike follow go other each (Err e) = (refl, refl)
     from_parts-alike follow go other each (Ok parts) =
         then-alike (walk follow parts.names parts.trailing) (walk follow parts.names parts.trailing) (or_else failed go) (or_else failed other) (refl, refl)
@@ -178,7 +178,7 @@ module _ (cells : Cells) where
           then-alike (climb m i e) (climb n i e) next next (climb-any m n i e h (enough e h) (more e h)) (refl, refl)
 
       -- and so is what a directory comes to
-      rename_dir-alike : (d : ℕ) (name : List ℕ) (i : ℕ) (spot : Spot) → IsSpot cells spot → Alike cells (rename_dir m (entry_at d name) i spot) (rename_dir n (entry_at d name) i spot)
+      rename_dir-alike : (d : ℕ) (name : List ℕ) (i : ℕ) (spot : PathEnd) → IsSpot cells spot → Alike cells (rename_dir m (entry_at d name) i spot) (rename_dir n (entry_at d name) i spot)
       rename_dir-alike d name i (Named entry None slash) h = unless_below-alike i entry.dir h.0 (Answer (renamed (entry_at d name) (DirNode i) entry (with_parent i d entry.dir)))
       rename_dir-alike d name i (Named entry (Some (FileNode kind j)) slash) h = (refl, refl)
       rename_dir-alike d name i (Named entry (Some (DirNode j)) slash) h =
@@ -186,7 +186,7 @@ module _ (cells : Cells) where
       rename_dir-alike d name i (Itself e) h = (refl, refl)
 
       -- whatever the old path names
-      rename_old-alike : (new : Parts) (spot : Spot) → IsSpot cells spot → Alike cells (rename_old m new spot) (rename_old n new spot)
+      rename_old-alike : (new : Parts) (spot : PathEnd) → IsSpot cells spot → Alike cells (rename_old m new spot) (rename_old n new spot)
       rename_old-alike new (Named entry None slash) h = (refl, refl)
       rename_old-alike new (Named entry (Some (FileNode form i)) slash) h = (refl, refl)
       rename_old-alike new (Named entry (Some (DirNode i)) slash) h = from_parts-alike false (rename_dir m entry i) (rename_dir n entry i) (rename_dir-alike entry.dir entry.name i) (Ok new)

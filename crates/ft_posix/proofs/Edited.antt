@@ -8,7 +8,7 @@ use Rattle.ft_posix.specs.declared.intent.Edit.{Edit}
 use Rattle.ft_posix.specs.declared.intent.Edit.TheVariants.{Entry, Parent, Links, Overwrite, Resize, Open, DirAttributes, FileAttributes, Time}
 use Rattle.ft_posix.specs.Accesses.{written_cell}
 use Rattle.ft_posix.specs.Stored.{put}
-use Rattle.ft_posix.specs.Comes.{write_of}
+use Rattle.ft_posix.specs.Computes.{write_of}
 use Rattle.ft_posix.specs.Edits.{edit_cell, IsOther, SameOn}
 use Rattle.ft_posix.proofs.Held.{put-kept}
 

@@ -33,7 +33,7 @@ use Rattle.ft_cells.specs.declared.cell.Cell.TheVariants as cell
 use Rattle.ft_posix.specs.Outcomes.{Write, sets, Outcome}
 use Rattle.ft_posix.specs.Stored.{put, put_all, after, outcome}
 use Rattle.ft_posix.proofs.Changes.{FileWrite, AreFileWrites, sets_contents, sets_file_attributes, sets_dir_attributes, closes, sets_open, Change, no_change, makes, removes, creates_file, creates_link, links_file, unlinks, moves_file, replaces_file, moves_dir, replaces_dir, on_files, made, removed, call-changes}
-use Rattle.ft_posix.proofs.Conjunction.{first, second, both}
+use Rattle.ft_cells.proofs.Conjunction.{first, second, both}
 use Rattle.ft_posix.proofs.Counting.{any-count}
 use Rattle.ft_posix.proofs.FileWrites.{parent-files, links-files, named-files}
 use Rattle.ft_posix.proofs.Kept.{soundness}

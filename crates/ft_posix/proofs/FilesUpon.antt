@@ -22,8 +22,8 @@ use Rattle.ft_cells.specs.declared.attributes.Timestamp.{Timestamp}
 use Rattle.ft_cells.specs.Cells.{Cells, untimed, no_contents, entry_of, names_of, open_of}
 use Rattle.ft_tree.specs.Views.{view_of}
 use Rattle.ft_cells.specs.Looks.{Looks, Answer, Look, answer, looked_at, then, or_else}
-use Rattle.ft_cells.specs.declared.node.Spot.{Spot}
-use Rattle.ft_cells.specs.declared.node.Spot.TheVariants.{Named as AtName, Itself}
+use Rattle.ft_cells.specs.declared.node.PathEnd.{PathEnd}
+use Rattle.ft_cells.specs.declared.node.PathEnd.TheVariants.{Named as AtName, Itself}
 use Rattle.ft_tree.specs.Walk.{walk}
 use Rattle.ft_posix.specs.declared.TheConstants.{LAST_OFFSET}
 use Rattle.ft_posix.specs.declared.call.OpenFlags.{OpenFlags}
@@ -97,12 +97,12 @@ module _ (cells : Cells) (k : ℕ) (seen : List Cell) where
   meets_none s h = Each-map (λ c. file_of c ≡ None) IsMet of_none (looked_at s (view_of cells)) h
 
   -- a failed walk changes nothing
-  spot-goes : (go : Spot → Looks Outcome) → ((spot : Spot) → IsFound cells seen spot → GoesUpon (go spot)) → (r : Result Spot Errno) → EndsFound cells seen r → GoesUpon (or_else failed go r)
+  spot-goes : (go : PathEnd → Looks Outcome) → ((spot : PathEnd) → IsFound cells seen spot → GoesUpon (go spot)) → (r : Result PathEnd Errno) → EndsFound cells seen r → GoesUpon (or_else failed go r)
   spot-goes go each (Ok spot) h = each spot h
   spot-goes go each (Err e) h = no_change
 
   -- a call by a path sees the entry to which that leads
-  pub from_parts-goes : (follow : Bool) (go : Spot → Looks Outcome) → ((spot : Spot) → IsFound cells seen spot → GoesUpon (go spot)) → (parts : Result Parts Errno) → GoesUpon (from_parts follow parts go)
+  pub from_parts-goes : (follow : Bool) (go : PathEnd → Looks Outcome) → ((spot : PathEnd) → IsFound cells seen spot → GoesUpon (go spot)) → (parts : Result Parts Errno) → GoesUpon (from_parts follow parts go)
   from_parts-goes follow go each (Err e) = no_change
   from_parts-goes follow go each (Ok parts) = λ all.
       let way = walk follow parts.names parts.trailing in
@@ -111,7 +111,7 @@ module _ (cells : Cells) (k : ℕ) (seen : List Cell) where
       (λ _. spot-goes go each (answer way (view_of cells)) found.1) all
 
   -- with the faults of its arguments
-  pub from_judged-goes : (fault : Option Errno) (follow : Bool) (go : Spot → Looks Outcome) → ((spot : Spot) → IsFound cells seen spot → GoesUpon (go spot)) → (parts : Result Parts Errno) → GoesUpon (from_judged fault follow parts go)
+  pub from_judged-goes : (fault : Option Errno) (follow : Bool) (go : PathEnd → Looks Outcome) → ((spot : PathEnd) → IsFound cells seen spot → GoesUpon (go spot)) → (parts : Result Parts Errno) → GoesUpon (from_judged fault follow parts go)
   from_judged-goes fault follow go each (Err e) = no_change
   from_judged-goes fault follow go each (Ok parts) = unless-goes fault (from_parts follow (Ok parts) go) (from_parts-goes follow go each (Ok parts))
 
@@ -127,7 +127,7 @@ module _ (cells : Cells) (k : ℕ) (seen : List Cell) where
   dir_mode-upon all (Some mode) = (upon_dir_attributes k _, tt)
 
   -- to make a directory sets an entry that led to nothing
-  pub make_dir-goes : (mode : Option ℕ) (spot : Spot) → IsFound cells seen spot → GoesUpon (make_dir k mode spot)
+  pub make_dir-goes : (mode : Option ℕ) (spot : PathEnd) → IsFound cells seen spot → GoesUpon (make_dir k mode spot)
   make_dir-goes mode (AtName entry None slash) h =
       let ws = (makes_dir k mode entry).writes in
       λ all. (tt, (upon_parent k (Some entry.dir), (fills cells k seen ws entry.dir entry.name None (Some (DirNode k)) h.1 (λ i. refl) no_name, dir_mode-upon ws mode)))
@@ -135,7 +135,7 @@ module _ (cells : Cells) (k : ℕ) (seen : List Cell) where
   make_dir-goes mode (Itself d) h = no_change
 
   -- to remove one empties an entry of a directory
-  remove_dir-goes : (spot : Spot) → IsFound cells seen spot → GoesUpon (remove_dir spot)
+  remove_dir-goes : (spot : PathEnd) → IsFound cells seen spot → GoesUpon (remove_dir spot)
   remove_dir-goes (AtName entry None slash) h = no_change
   remove_dir-goes (AtName entry (Some (FileNode form i)) slash) h = no_change
   remove_dir-goes (Itself d) h = no_change
@@ -146,7 +146,7 @@ module _ (cells : Cells) (k : ℕ) (seen : List Cell) where
       by_names (e ∷ es) = tt
 
   -- the names of a directory are of no file
-  pub list_dir-goes : (spot : Spot) → IsFound cells seen spot → GoesUpon (list_dir spot)
+  pub list_dir-goes : (spot : PathEnd) → IsFound cells seen spot → GoesUpon (list_dir spot)
   list_dir-goes (AtName entry None slash) h = no_change
   list_dir-goes (AtName entry (Some (FileNode form i)) slash) h = no_change
   list_dir-goes (AtName entry (Some (DirNode i)) slash) h = λ all. ((of_none (Names i) refl, tt), tt)
@@ -165,7 +165,7 @@ module _ (cells : Cells) (k : ℕ) (seen : List Cell) where
   file_info-goes LinkForm i upon all = ((of_file i upon, (of_file i upon, tt)), tt)
 
   -- those of the file to which the path leads
-  pub stat_spot-goes : (spot : Spot) → IsFound cells seen spot → GoesUpon (stat_spot spot)
+  pub stat_spot-goes : (spot : PathEnd) → IsFound cells seen spot → GoesUpon (stat_spot spot)
   stat_spot-goes (AtName entry None slash) h = no_change
   stat_spot-goes (AtName entry (Some (DirNode i)) slash) h = λ all. ((of_none (DirAttributes i) refl, tt), tt)
   stat_spot-goes (AtName entry (Some (FileNode form i)) slash) h = file_info-goes form i (by_entry entry.dir entry.name i slash h)
@@ -176,7 +176,7 @@ module _ (cells : Cells) (k : ℕ) (seen : List Cell) where
   cut_file-goes i size upon all = ((of_file i upon, tt), (upon_contents i _ upon, tt))
 
   -- those of the file to which the path leads
-  truncate_spot-goes : (size : ℕ) (spot : Spot) → IsFound cells seen spot → GoesUpon (truncate_spot size spot)
+  truncate_spot-goes : (size : ℕ) (spot : PathEnd) → IsFound cells seen spot → GoesUpon (truncate_spot size spot)
   truncate_spot-goes size (AtName entry None slash) h = no_change
   truncate_spot-goes size (AtName entry (Some (DirNode i)) slash) h = no_change
   truncate_spot-goes size (AtName entry (Some (FileNode LinkForm i)) slash) h = no_change
@@ -200,7 +200,7 @@ module _ (cells : Cells) (k : ℕ) (seen : List Cell) where
   change_file-goes change i upon all = ((of_file i upon, tt), (upon_file_attributes i _ upon, tt))
 
   -- those of what the path leads to
-  pub change_spot-goes : (change : Attributes → Attributes) (at_link : Outcome) → GoesUpon (Answer at_link) → (spot : Spot) → IsFound cells seen spot → GoesUpon (change_spot change at_link spot)
+  pub change_spot-goes : (change : Attributes → Attributes) (at_link : Outcome) → GoesUpon (Answer at_link) → (spot : PathEnd) → IsFound cells seen spot → GoesUpon (change_spot change at_link spot)
   change_spot-goes change at_link linked (AtName entry None slash) h = no_change
   change_spot-goes change at_link linked (AtName entry (Some (DirNode i)) slash) h = change_dir-goes change i
   change_spot-goes change at_link linked (AtName entry (Some (FileNode Regular i)) slash) h = change_file-goes change i (by_entry entry.dir entry.name i slash h)
@@ -217,7 +217,7 @@ module _ (cells : Cells) (k : ℕ) (seen : List Cell) where
   set_time-goes time i upon all = ((of_file i upon, tt), (upon_contents i _ upon, tt))
 
   -- that of the file to which the path leads
-  pub time_spot-goes : (fault : Errno) (time : Timestamp) (spot : Spot) → IsFound cells seen spot → GoesUpon (time_spot fault time spot)
+  pub time_spot-goes : (fault : Errno) (time : Timestamp) (spot : PathEnd) → IsFound cells seen spot → GoesUpon (time_spot fault time spot)
   time_spot-goes fault time (AtName entry None slash) h = no_change
   time_spot-goes fault time (AtName entry (Some (DirNode i)) slash) h = no_change
   time_spot-goes fault time (AtName entry (Some (FileNode LinkForm i)) slash) h = no_change
@@ -254,7 +254,7 @@ module _ (cells : Cells) (k : ℕ) (seen : List Cell) where
     open_node-upon flags d name (FileNode Regular i) slash h = opens-upon flags i (by_entry d name i slash h)
 
     -- it is made, or opened, or neither
-    open_spot-upon : (flags : OpenFlags) (spot : Spot) → IsFound cells seen spot → AreUpon cells k seen (open_spot k flags spot).writes
+    open_spot-upon : (flags : OpenFlags) (spot : PathEnd) → IsFound cells seen spot → AreUpon cells k seen (open_spot k flags spot).writes
     open_spot-upon flags (AtName entry None slash) h =
         elim (flags.create && not slash) as (λ b. AreUpon cells k seen (cond b (creates k flags entry) (failed ENOENT)).writes) [
           | true ↦ creates-upon flags entry.dir entry.name h.1
@@ -274,7 +274,7 @@ module _ (cells : Cells) (k : ℕ) (seen : List Cell) where
   -- Symbolic links.
 
   -- one that is made is the call's own
-  pub make_link-goes : (target : List ℕ) (spot : Spot) → IsFound cells seen spot → GoesUpon (make_link k target spot)
+  pub make_link-goes : (target : List ℕ) (spot : PathEnd) → IsFound cells seen spot → GoesUpon (make_link k target spot)
   make_link-goes target (AtName entry None slash) h = λ all. (tt, by_slash slash)
     where
       by_slash : (b : Bool) → AreUpon cells k seen (cond b (failed ENOENT) (makes_link k target entry)).writes
@@ -284,7 +284,7 @@ module _ (cells : Cells) (k : ℕ) (seen : List Cell) where
   make_link-goes target (Itself d) h = no_change
 
   -- the target of the link to which the path leads is looked at
-  pub read_link-goes : (spot : Spot) → IsFound cells seen spot → GoesUpon (read_link spot)
+  pub read_link-goes : (spot : PathEnd) → IsFound cells seen spot → GoesUpon (read_link spot)
   read_link-goes (AtName entry None slash) h = no_change
   read_link-goes (AtName entry (Some (DirNode i)) slash) h = no_change
   read_link-goes (AtName entry (Some (FileNode Regular i)) slash) h = no_change

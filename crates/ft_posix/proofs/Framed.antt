@@ -9,7 +9,7 @@ use Rattle.ft_laws.proofs.Writing.{write_kept}
 use Rattle.ft_laws.proofs.Running.{made_faithful}
 use Rattle.ft_cells.specs.declared.cell.Cell.{Cell}
 use Rattle.ft_cells.specs.CellOrder.{overlap}
-use Rattle.ft_cells.specs.Cells.{Cells, stored_dirs}
+use Rattle.ft_cells.specs.Cells.{Cells, directory_count}
 use Rattle.ft_tree.specs.Views.{view_of}
 use Rattle.ft_posix.specs.declared.call.Mode.TheVariants.{Write as WriteMode}
 use Rattle.ft_posix.specs.declared.call.Access.{Access}
@@ -43,7 +43,7 @@ module _ (steps-alike : StepsAlike) (stored-enough : StoredEnough) where
   frame s t k call sound_s sound_t free_s free_t limits agree =
       let alike = does-alike steps-alike stored-enough s t sound_s.tree sound_t.tree k call limits
       (agree-each (view_of s) (view_of t) (looked s k call)
-      (λ c i. let at = looked-accessed (steps s.limits (stored_dirs s) k call) (view_of s) c i in agree-at s t (accesses_of s k call) agree (access c at.0) at.1)) in
+      (λ c i. let at = looked-accessed (steps s.limits (directory_count s) k call) (view_of s) c i in agree-at s t (accesses_of s k call) agree (access c at.0) at.1)) in
       record {
         accesses = sym (accesses-alike s t k call alike);
         reply = λ i. (sym alike.outcomes i).reply;
@@ -58,7 +58,7 @@ kept cells k call c not_written =
     false_from_ne_true (effects.is_written posix ws x)
     (λ is. false≢true (sym not_written
     ∙ listed-any (λ a. is_write a.mode && overlap a.cell c) (access x WriteMode) (accesses_of cells k call)
-    (written-accessed (steps cells.limits (stored_dirs cells) k call) (view_of cells) x (written-in ws x is)) (overlaps x c x (covers-refl x) covered))) in
+    (written-accessed (steps cells.limits (directory_count cells) k call) (view_of cells) x (written-in ws x is)) (overlaps x c x (covers-refl x) covered))) in
     view-covered (after cells k call) cells c (λ x covered. ap (λ s. held s x) (sym (write-put ws cells)) ∙ write_kept posix sets ws cells x (apart x covered))
 
 -- what is tested of a list under a function

@@ -6,7 +6,7 @@ use Rattle.std.specs.FinMap as finite
 use Rattle.ft_laws.specs.Lists.{In, any}
 use Rattle.ft_cells.specs.declared.cell.Cell.{Cell}
 use Rattle.ft_cells.specs.CellOrder.{cell_cmp, cell_cmp_total, cell_cmp_exact, same_cell}
-use Rattle.ft_cells.specs.Cells.{Cells, stored_dirs}
+use Rattle.ft_cells.specs.Cells.{Cells, directory_count}
 use Rattle.ft_cells.specs.Looks.{Looks, View, answer, looked_at}
 use Rattle.ft_tree.specs.Views.{view_of}
 use Rattle.ft_posix.specs.declared.call.Call.{Call}
@@ -20,7 +20,7 @@ use Rattle.ft_posix.specs.Steps.{steps}
 use Rattle.ft_posix.specs.Stored.{outcome}
 use Rattle.ft_posix.specs.Accesses.{Modes, with_looks, with_writes, with_accesses, written_cell, listed, accesses_of}
 use Rattle.ft_posix.specs.Looking.{Looking, noted}
-use Rattle.ft_posix.specs.Comes.{writes_of, outcome_of}
+use Rattle.ft_posix.specs.Computes.{writes_of, outcome_of}
 use Rattle.ft_posix.specs.Edits.{edit_cell, with_edits}
 use Rattle.ft_posix.specs.Besides.{AreBut, AreListedBut, IsReadOf, AreAlikeBut, AreReads}
 use Rattle.ft_posix.proofs.Accessed.{access, cells-in, get-with_looks, listed-at, at-listed, with_accesses-parts}
@@ -128,10 +128,10 @@ listed-none front modes is list l = l.list_is ∙ ap listed (but-none l.some mod
 
 -- What is noted of a call whose front is known in advance, and edited, is what it accesses, but for
 -- reads of the front.
-pub accesses-fronted : (front : List Cell) (cells : Cells) (old mid : Looking) (k : ℕ) (call : Call) (x : Intent) → old ≡ record { cells = cells; modes = with_looks finite.empty front; front = front } → outcome_of old.cells x ≡ outcome old.cells k call → mid ≡ noted old (steps old.cells.limits (stored_dirs old.cells) k call)
+pub accesses-fronted : (front : List Cell) (cells : Cells) (old mid : Looking) (k : ℕ) (call : Call) (x : Intent) → old ≡ record { cells = cells; modes = with_looks finite.empty front; front = front } → outcome_of old.cells x ≡ outcome old.cells k call → mid ≡ noted old (steps old.cells.limits (directory_count old.cells) k call)
     → (list : List Access) → AreListedBut mid.front (with_edits mid.modes x.edits) list → AreAlikeBut front list (accesses_of cells k call)
 accesses-fronted front cells old mid k call x start comes looks list listed_but =
-    let s = steps old.cells.limits (stored_dirs old.cells) k call in
+    let s = steps old.cells.limits (directory_count old.cells) k call in
     let v = view_of old.cells in
     let all : with_edits mid.modes x.edits ≡ with_writes (with_looks old.modes (looked_at s v)) (answer s v).writes =
     ap (λ (l : Looking). with_edits l.modes x.edits) looks ∙ with_edits-writes old.cells x.edits (with_looks old.modes (looked_at s v)) ∙ ap (λ (o : Outcome). with_writes (with_looks old.modes (looked_at s v)) o.writes) comes in

@@ -31,7 +31,7 @@ use Rattle.ft_cells.specs.declared.cell.Cell.TheVariants.{Entry, Names, Parent, 
 use Rattle.ft_cells.specs.declared.open_file.OpenFile.{OpenFile}
 use Rattle.ft_cells.specs.CellOrder.{cell_number, same_cell, overlap, same_cell-refl, same_cell-is}
 use Rattle.ft_cells.specs.Nodes.{number_of}
-use Rattle.ft_cells.specs.Cells.{Cells, FileCells, no_contents, no_file, file_of as file_cells, stored_dirs, entry_of, links_of, file_attributes_of, contents_of, open_of}
+use Rattle.ft_cells.specs.Cells.{Cells, FileCells, no_contents, no_file, file_of as file_cells, directory_count, entry_of, links_of, file_attributes_of, contents_of, open_of}
 use Rattle.ft_cells.specs.Limits.{default_limits}
 use Rattle.ft_cells.specs.declared.limits.TreeLimits.{TreeLimits}
 use Rattle.ft_cells.specs.Plain.{view_in, links_in}
@@ -167,7 +167,7 @@ writes-noted s a =
     noted : (x : Cell) → In x (map written_cell (outcome s a.stamp a.call).writes) → writes_cell (map as_place (accesses_of s a.stamp a.call)) x ≡ true
     noted x i =
         in-any (λ (p : PlaceAccess Cell). same_cell p.place x && p.writes) _ (map as_place (accesses_of s a.stamp a.call))
-        (in-map as_place _ (accesses_of s a.stamp a.call) (written-accessed (steps s.limits (stored_dirs s) a.stamp a.call) (view_of s) x i)) (ap (λ b. b && true) (same_cell-refl x))
+        (in-map as_place _ (accesses_of s a.stamp a.call) (written-accessed (steps s.limits (directory_count s) a.stamp a.call) (view_of s) x i)) (ap (λ b. b && true) (same_cell-refl x))
 
 module _ (s : Cells) (a : Stamped) where
   abbrev writes : List Write
@@ -178,23 +178,23 @@ module _ (s : Cells) (a : Stamped) where
 
   -- what is covered by a cell that is looked at is touched
   looked-touched : (c x : Cell) → In c (looked s a.stamp a.call) → covers c x ≡ true → touch posix (does s a).accesses x ≡ true
-  looked-touched c x i h = let at = looked-accessed (steps s.limits (stored_dirs s) a.stamp a.call) (view_of s) c i in in-touched accesses (access c at.0) x at.1 h
+  looked-touched c x i h = let at = looked-accessed (steps s.limits (directory_count s) a.stamp a.call) (view_of s) c i in in-touched accesses (access c at.0) x at.1 h
 
   -- what is written is changed
   told-back : (x : Cell) → is_written posix writes x ≡ true → change posix (does s a).accesses x ≡ true
   told-back x h =
       let i = written-in writes x h in
-      in-changed accesses _ x (written-accessed (steps s.limits (stored_dirs s) a.stamp a.call) (view_of s) x i) (covers-refl x)
+      in-changed accesses _ x (written-accessed (steps s.limits (directory_count s) a.stamp a.call) (view_of s) x i) (covers-refl x)
 
   -- and nothing else is
   told-on : (x : Cell) → change posix (does s a).accesses x ≡ true → is_written posix writes x ≡ true
   told-on x h =
       let found = changed-in accesses x h in
       let parts = and_parts (is_write found.0.mode) (covers found.0.cell x) found.2 in
-      let i : In found.0.cell (map written_cell writes) = accessed-written (steps s.limits (stored_dirs s) a.stamp a.call) (view_of s) found.0 found.1 parts.0 in
+      let i : In found.0.cell (map written_cell writes) = accessed-written (steps s.limits (directory_count s) a.stamp a.call) (view_of s) found.0 found.1 parts.0 in
       in-written writes x (elim (covers-cases found.0.cell x parts.1) [
         | inl is ↦ subst (λ c. In c (map written_cell writes)) is i
-        | inr of ↦ absurd (names-not_written s.limits (stored_dirs s) a.stamp a.call (view_of s) of.0 (subst (λ c. In c (map written_cell writes)) of.2 i))
+        | inr of ↦ absurd (names-not_written s.limits (directory_count s) a.stamp a.call (view_of s) of.0 (subst (λ c. In c (map written_cell writes)) of.2 i))
       ])
 
   -- the accesses that write tell what is written
@@ -217,7 +217,7 @@ module _ (s : Cells) (a : Stamped) where
         let found = touched-in accesses x h in
         elim (covers-cases found.0.cell x found.2) [
           | inr of ↦ absurd (none-some i (sym (ap file_of of.3) ∙ is))
-          | inl at ↦ elim (accessed-cases (steps s.limits (stored_dirs s) a.stamp a.call) (view_of s) found.0 found.1) [
+          | inl at ↦ elim (accessed-cases (steps s.limits (directory_count s) a.stamp a.call) (view_of s) found.0 found.1) [
             | inl w ↦ let from = map-in written_cell writes found.0.cell w in
                 known i (Each-at (λ v. (j : ℕ) → file_of (written_cell v) ≡ Some j → Upon s a.stamp (looked s a.stamp a.call) j) writes from.0 upon.writes from.1 i (ap file_of (sym from.2 ∙ at) ∙ is))
             | inr l ↦ known i (Each-at (λ c. (j : ℕ) → file_of c ≡ Some j → Upon s a.stamp (looked s a.stamp a.call) j) (looked s a.stamp a.call) found.0.cell upon.looks l i (ap file_of at ∙ is))
@@ -401,9 +401,9 @@ module _ (steps-alike : StepsAlike) (stored-enough : StoredEnough) (upon : EachC
         (freshness p a.stamp a.call has.sound (same_free s p back a.stamp free) b.stamp (same_free s p back b.stamp too) (λ is. other (sym is)));
     nameless = nameless;
     own_blank = λ s a has free x h. own_blank s a.stamp free x h;
-    comes_upon = λ s a has free x i is h. comes_upon s a (upon s a.stamp free (stored_dirs s) a.call) x i is h;
-    names_known = λ s a has free x i changed named. names_known s a (upon s a.stamp free (stored_dirs s) a.call) x i changed named;
-    lets_go = λ s a has free x i had lost. lets_go s a (upon s a.stamp free (stored_dirs s) a.call) x i had lost;
+    comes_upon = λ s a has free x i is h. comes_upon s a (upon s a.stamp free (directory_count s) a.call) x i is h;
+    names_known = λ s a has free x i changed named. names_known s a (upon s a.stamp free (directory_count s) a.call) x i changed named;
+    lets_go = λ s a has free x i had lost. lets_go s a (upon s a.stamp free (directory_count s) a.call) x i had lost;
     hides_sound = hides_sound;
     hides_ready = λ hidden r s a hides free. hides_ready hidden r s hides a.stamp free;
   }

@@ -1,4 +1,3 @@
-pub mod Conjunction
 pub mod Puts
 pub mod Places
 pub mod Placing

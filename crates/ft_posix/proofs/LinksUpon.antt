@@ -17,8 +17,8 @@ use Rattle.ft_cells.specs.declared.node.Node.TheVariants.{Dir as DirNode, File a
 use Rattle.ft_cells.specs.Cells.{Cells, entry_of, names_of, links_of}
 use Rattle.ft_tree.specs.Views.{view_of}
 use Rattle.ft_cells.specs.Looks.{Looks, Answer, answer}
-use Rattle.ft_cells.specs.declared.node.Spot.{Spot}
-use Rattle.ft_cells.specs.declared.node.Spot.TheVariants.{Named as AtName, Itself}
+use Rattle.ft_cells.specs.declared.node.PathEnd.{PathEnd}
+use Rattle.ft_cells.specs.declared.node.PathEnd.TheVariants.{Named as AtName, Itself}
 use Rattle.ft_posix.specs.declared.call.Reply.TheVariants.{Done}
 use Rattle.ft_posix.specs.Outcomes.{Write, sets, Outcome, failed, told, from_parts}
 use Rattle.ft_path.specs.FilePath.{last_of}
@@ -37,7 +37,7 @@ file_inside form kind i j h = cc
 
 module _ (cells : Cells) (k : ℕ) (seen : List Cell) where
   -- link sets an entry that led to nothing, and the links
-  link_new-goes : (limits : TreeLimits) (form : Form) (i : ℕ) → Upon cells k seen i → (spot : Spot) → IsFound cells seen spot → GoesUpon cells k seen (link_new limits form i spot)
+  link_new-goes : (limits : TreeLimits) (form : Form) (i : ℕ) → Upon cells k seen i → (spot : PathEnd) → IsFound cells seen spot → GoesUpon cells k seen (link_new limits form i spot)
   link_new-goes limits form i upon (AtName entry (Some x) slash) h = no_change cells k seen
   link_new-goes limits form i upon (Itself d) h = no_change cells k seen
   link_new-goes limits form i upon (AtName entry None slash) h = either-goes cells k seen slash (Answer (failed ENOENT)) _ (no_change cells k seen) (λ all. ((of_file cells k seen i upon, tt), by_room (nat_lt (links_of cells i) limits.links)))
@@ -47,7 +47,7 @@ module _ (cells : Cells) (k : ℕ) (seen : List Cell) where
       by_room false = tt
 
   -- of the file to which the old path leads
-  link_old-goes : (limits : TreeLimits) (new : Parts) (spot : Spot) → IsFound cells seen spot → GoesUpon cells k seen (link_old limits new spot)
+  link_old-goes : (limits : TreeLimits) (new : Parts) (spot : PathEnd) → IsFound cells seen spot → GoesUpon cells k seen (link_old limits new spot)
   link_old-goes limits new (AtName entry None slash) h = no_change cells k seen
   link_old-goes limits new (AtName entry (Some (DirNode i)) slash) h = no_change cells k seen
   link_old-goes limits new (AtName entry (Some (FileNode form i)) slash) h = from_parts-goes cells k seen false (link_new limits form i) (link_new-goes limits form i (by_entry cells k seen entry.dir entry.name i slash h)) (Ok new)
@@ -60,7 +60,7 @@ module _ (cells : Cells) (k : ℕ) (seen : List Cell) where
   link_parts-goes limits (Ok old) (Ok new) = from_parts-goes cells k seen false (link_old limits new) (link_old-goes limits new) (Ok old)
 
   -- unlink takes away a name, and looks at the links
-  pub unlink_spot-goes : (spot : Spot) → IsFound cells seen spot → GoesUpon cells k seen (unlink_spot spot)
+  pub unlink_spot-goes : (spot : PathEnd) → IsFound cells seen spot → GoesUpon cells k seen (unlink_spot spot)
   unlink_spot-goes (AtName entry None slash) h = no_change cells k seen
   unlink_spot-goes (AtName entry (Some (DirNode i)) slash) h = no_change cells k seen
   unlink_spot-goes (AtName entry (Some (FileNode form i)) slash) h =
@@ -77,7 +77,7 @@ module _ (cells : Cells) (k : ℕ) (seen : List Cell) where
       (first (of_same (Upon cells k seen) i (by_entry cells k seen d name i false h)), (frees cells k seen _ d name i None h.1 goes (no_name cells k seen), rest))
 
   -- a file comes to the place of nothing, or of a file whose links are looked at
-  rename_file-goes : (d : ℕ) (name : List ℕ) (form : Form) (i : ℕ) → IsFound cells seen (AtName (entry_at d name) (Some (FileNode form i)) false) → (spot : Spot) → IsFound cells seen spot → GoesUpon cells k seen (rename_file (entry_at d name) form i spot)
+  rename_file-goes : (d : ℕ) (name : List ℕ) (form : Form) (i : ℕ) → IsFound cells seen (AtName (entry_at d name) (Some (FileNode form i)) false) → (spot : PathEnd) → IsFound cells seen spot → GoesUpon cells k seen (rename_file (entry_at d name) form i spot)
   rename_file-goes d name form i h (AtName other None slash) g = λ all. (tt, by_slash slash)
     where
       apart : is_place d name other.dir other.name ≡ false
@@ -121,7 +121,7 @@ module _ (cells : Cells) (k : ℕ) (seen : List Cell) where
   with_parent-upon all i d e = elim (d == e) as (λ b. Each (IsUpon cells k seen all) (cond b [] (sets (cell.Parent i) (Some e) ∷ []))) [ true ↦ tt | false ↦ (upon_parent i (Some e), tt) ]
 
   -- a directory comes to the place of nothing, or of a directory
-  rename_dir-goes : (n d : ℕ) (name : List ℕ) (i : ℕ) → entry_of cells d name ≡ Some (DirNode i) → (spot : Spot) → IsFound cells seen spot → GoesUpon cells k seen (rename_dir n (entry_at d name) i spot)
+  rename_dir-goes : (n d : ℕ) (name : List ℕ) (i : ℕ) → entry_of cells d name ≡ Some (DirNode i) → (spot : PathEnd) → IsFound cells seen spot → GoesUpon cells k seen (rename_dir n (entry_at d name) i spot)
   rename_dir-goes n d name i is (AtName entry None slash) g =
       let ws = (renamed (entry_at d name) (DirNode i) entry (with_parent i d entry.dir)).writes in
       unless_below-goes n i entry.dir _ (λ all. (tt, renamed_dir-upon d name i entry.dir entry.name (with_parent i d entry.dir) None is g.1 (λ j. refl) (with_parent-upon ws i d entry.dir)))
@@ -139,7 +139,7 @@ module _ (cells : Cells) (k : ℕ) (seen : List Cell) where
   rename_dir-goes n d name i is (Itself e) g = no_change cells k seen
 
   -- what the old path leads to is moved
-  rename_old-goes : (n : ℕ) (new : Parts) (spot : Spot) → IsFound cells seen spot → GoesUpon cells k seen (rename_old n new spot)
+  rename_old-goes : (n : ℕ) (new : Parts) (spot : PathEnd) → IsFound cells seen spot → GoesUpon cells k seen (rename_old n new spot)
   rename_old-goes n new (AtName entry None slash) h = no_change cells k seen
   rename_old-goes n new (AtName entry (Some (FileNode form i)) slash) h = from_parts-goes cells k seen false (rename_file entry form i) (rename_file-goes entry.dir entry.name form i h) (Ok new)
   rename_old-goes n new (AtName entry (Some (DirNode i)) slash) h = from_parts-goes cells k seen false (rename_dir n entry i) (rename_dir-goes n entry.dir entry.name i h.1) (Ok new)

@@ -11,7 +11,7 @@ use Rattle.std.specs.FinMap.{FinMap, find, get, entries, entries_sorted, get-ent
 use Rattle.std.specs.FinMap.Entries.{below_all}
 use Rattle.ft_cells.specs.declared.node.Node.{Node}
 use Rattle.ft_cells.specs.Cells.{DirCells, filled, dir_names, dir_entry}
-use Rattle.ft_posix.proofs.Conjunction.{both, first, second}
+use Rattle.ft_cells.proofs.Conjunction.{both, first, second}
 
 -- what tests as less is Less
 pub lesser : (r : Ordering) → T (is_lt r) → r ≡ Less

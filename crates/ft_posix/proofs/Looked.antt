@@ -20,8 +20,8 @@ use Rattle.ft_cells.specs.declared.attributes.Attributes.{Attributes}
 use Rattle.ft_cells.specs.declared.attributes.Timestamp.{Timestamp}
 use Rattle.ft_tree.specs.Views.{view_of}
 use Rattle.ft_cells.specs.Looks.{Looks, Answer, Look, answer, looked_at, then, or_else}
-use Rattle.ft_cells.specs.declared.node.Spot.{Spot}
-use Rattle.ft_cells.specs.declared.node.Spot.TheVariants.{Named as AtName, Itself}
+use Rattle.ft_cells.specs.declared.node.PathEnd.{PathEnd}
+use Rattle.ft_cells.specs.declared.node.PathEnd.TheVariants.{Named as AtName, Itself}
 use Rattle.ft_path.specs.FilePath.{target_parts}
 use Rattle.ft_tree.specs.declared.reader.Way.{Way}
 use Rattle.ft_tree.specs.declared.reader.TheConstants.{MOST_FOLLOWED}
@@ -112,12 +112,12 @@ module _ (cells : Cells) where
 
   -- and at the bytes of links that entries name
   module _ (sound : AreSoundCells cells) where
-    way-shown : (go : ℕ → List (List ℕ) → Bool → Looks (Result Spot Errno)) → ((i : ℕ) (names : List (List ℕ)) (slash : Bool) → Hangs (parent_of cells) i → LooksWell (go i names slash))
+    way-shown : (go : ℕ → List (List ℕ) → Bool → Looks (Result PathEnd Errno)) → ((i : ℕ) (names : List (List ℕ)) (slash : Bool) → Hangs (parent_of cells) i → LooksWell (go i names slash))
         → (d : ℕ) (names : List (List ℕ)) (slash : Bool) (target : List ℕ) → Hangs (parent_of cells) d → (r : Result Parts Errno) → LooksWell (or_else Err (λ (way : Way). go way.start way.names way.slash) (way_of d names slash target r))
     way-shown go each d names slash target h (Ok parts) = each _ _ _ (start-hangs cells d target h)
     way-shown go each d names slash target h (Err e) = tt
 
-    onward-shown : (go : ℕ → List (List ℕ) → Bool → Looks (Result Spot Errno)) → ((i : ℕ) (names : List (List ℕ)) (slash : Bool) → Hangs (parent_of cells) i → LooksWell (go i names slash)) → (slash : Bool) (end : Leg) → LegWell cells end → LooksWell (onward go slash end)
+    onward-shown : (go : ℕ → List (List ℕ) → Bool → Looks (Result PathEnd Errno)) → ((i : ℕ) (names : List (List ℕ)) (slash : Bool) → Hangs (parent_of cells) i → LooksWell (go i names slash)) → (slash : Bool) (end : Leg) → LegWell cells end → LooksWell (onward go slash end)
     onward-shown go each slash (Ends end) well = tt
     onward-shown go each slash (Meets link dir names) well = (well.0, way-shown go each dir names slash (bytes_of cells link) well.1 (target_parts (bytes_of cells link)))
 
@@ -142,24 +142,24 @@ module _ (cells : Cells) where
 
   -- A call looks at a file only that its path leads to, or its descriptor.
 
-  remove_dir-shown : (spot : Spot) → IsSpot cells spot → LooksWell (remove_dir spot)
+  remove_dir-shown : (spot : PathEnd) → IsSpot cells spot → LooksWell (remove_dir spot)
   remove_dir-shown (AtName entry None slash) h = tt
   remove_dir-shown (AtName entry (Some (DirNode i)) slash) h = (tt, tt)
   remove_dir-shown (AtName entry (Some (FileNode form i)) slash) h = tt
   remove_dir-shown (Itself d) h = tt
 
-  make_dir-shown : (k : ℕ) (mode : Option ℕ) (spot : Spot) → IsSpot cells spot → LooksWell (make_dir k mode spot)
+  make_dir-shown : (k : ℕ) (mode : Option ℕ) (spot : PathEnd) → IsSpot cells spot → LooksWell (make_dir k mode spot)
   make_dir-shown k mode (AtName entry None slash) h = tt
   make_dir-shown k mode (AtName entry (Some x) slash) h = tt
   make_dir-shown k mode (Itself d) h = tt
 
-  list_dir-shown : (spot : Spot) → IsSpot cells spot → LooksWell (list_dir spot)
+  list_dir-shown : (spot : PathEnd) → IsSpot cells spot → LooksWell (list_dir spot)
   list_dir-shown (AtName entry None slash) h = tt
   list_dir-shown (AtName entry (Some (DirNode i)) slash) h = (tt, tt)
   list_dir-shown (AtName entry (Some (FileNode form i)) slash) h = tt
   list_dir-shown (Itself d) h = (tt, tt)
 
-  truncate_spot-shown : (size : ℕ) (spot : Spot) → IsSpot cells spot → LooksWell (truncate_spot size spot)
+  truncate_spot-shown : (size : ℕ) (spot : PathEnd) → IsSpot cells spot → LooksWell (truncate_spot size spot)
   truncate_spot-shown size (AtName entry None slash) h = tt
   truncate_spot-shown size (AtName entry (Some (DirNode i)) slash) h = tt
   truncate_spot-shown size (AtName entry (Some (FileNode LinkForm i)) slash) h = tt
@@ -170,56 +170,56 @@ module _ (cells : Cells) where
   file_info-shown Regular i named = (tt, (named, (named, tt)))
   file_info-shown LinkForm i named = (tt, (named, tt))
 
-  stat_spot-shown : (spot : Spot) → IsSpot cells spot → LooksWell (stat_spot spot)
+  stat_spot-shown : (spot : PathEnd) → IsSpot cells spot → LooksWell (stat_spot spot)
   stat_spot-shown (AtName entry None slash) h = tt
   stat_spot-shown (AtName entry (Some (DirNode i)) slash) h = (tt, tt)
   stat_spot-shown (AtName entry (Some (FileNode form i)) slash) h = file_info-shown form i (by_entry entry.dir entry.name i (sym h.1))
   stat_spot-shown (Itself d) h = (tt, tt)
 
-  change_spot-shown : (change : Attributes → Attributes) (at_link : Outcome) (spot : Spot) → IsSpot cells spot → LooksWell (change_spot change at_link spot)
+  change_spot-shown : (change : Attributes → Attributes) (at_link : Outcome) (spot : PathEnd) → IsSpot cells spot → LooksWell (change_spot change at_link spot)
   change_spot-shown change at_link (AtName entry None slash) h = tt
   change_spot-shown change at_link (AtName entry (Some (DirNode i)) slash) h = (tt, tt)
   change_spot-shown change at_link (AtName entry (Some (FileNode Regular i)) slash) h = (by_entry entry.dir entry.name i (sym h.1), tt)
   change_spot-shown change at_link (AtName entry (Some (FileNode LinkForm i)) slash) h = tt
   change_spot-shown change at_link (Itself d) h = (tt, tt)
 
-  time_spot-shown : (fault : Errno) (time : Timestamp) (spot : Spot) → IsSpot cells spot → LooksWell (time_spot fault time spot)
+  time_spot-shown : (fault : Errno) (time : Timestamp) (spot : PathEnd) → IsSpot cells spot → LooksWell (time_spot fault time spot)
   time_spot-shown fault time (AtName entry None slash) h = tt
   time_spot-shown fault time (AtName entry (Some (DirNode i)) slash) h = tt
   time_spot-shown fault time (AtName entry (Some (FileNode LinkForm i)) slash) h = tt
   time_spot-shown fault time (AtName entry (Some (FileNode Regular i)) slash) h = (by_entry entry.dir entry.name i (sym h.1), tt)
   time_spot-shown fault time (Itself d) h = tt
 
-  make_link-shown : (k : ℕ) (target : List ℕ) (spot : Spot) → IsSpot cells spot → LooksWell (make_link k target spot)
+  make_link-shown : (k : ℕ) (target : List ℕ) (spot : PathEnd) → IsSpot cells spot → LooksWell (make_link k target spot)
   make_link-shown k target (AtName entry None slash) h = tt
   make_link-shown k target (AtName entry (Some x) slash) h = tt
   make_link-shown k target (Itself d) h = tt
 
-  read_link-shown : (spot : Spot) → IsSpot cells spot → LooksWell (read_link spot)
+  read_link-shown : (spot : PathEnd) → IsSpot cells spot → LooksWell (read_link spot)
   read_link-shown (AtName entry None slash) h = tt
   read_link-shown (AtName entry (Some (DirNode i)) slash) h = tt
   read_link-shown (AtName entry (Some (FileNode Regular i)) slash) h = tt
   read_link-shown (AtName entry (Some (FileNode LinkForm i)) slash) h = (by_entry entry.dir entry.name i (sym h.1), tt)
   read_link-shown (Itself d) h = tt
 
-  link_new-shown : (limits : TreeLimits) (form : Form) (i : ℕ) (spot : Spot) → IsSpot cells spot → LooksWell (link_new limits form i spot)
+  link_new-shown : (limits : TreeLimits) (form : Form) (i : ℕ) (spot : PathEnd) → IsSpot cells spot → LooksWell (link_new limits form i spot)
   link_new-shown limits form i (AtName entry None slash) h = either-shown slash (Answer (failed ENOENT)) _ tt (tt, tt)
   link_new-shown limits form i (AtName entry (Some x) slash) h = tt
   link_new-shown limits form i (Itself d) h = tt
 
-  unlink_spot-shown : (spot : Spot) → IsSpot cells spot → LooksWell (unlink_spot spot)
+  unlink_spot-shown : (spot : PathEnd) → IsSpot cells spot → LooksWell (unlink_spot spot)
   unlink_spot-shown (AtName entry None slash) h = tt
   unlink_spot-shown (AtName entry (Some (DirNode i)) slash) h = tt
   unlink_spot-shown (AtName entry (Some (FileNode form i)) slash) h = (tt, tt)
   unlink_spot-shown (Itself d) h = tt
 
-  rename_file-shown : (d : ℕ) (name : List ℕ) (form : Form) (i : ℕ) (spot : Spot) → IsSpot cells spot → LooksWell (rename_file (entry_at d name) form i spot)
+  rename_file-shown : (d : ℕ) (name : List ℕ) (form : Form) (i : ℕ) (spot : PathEnd) → IsSpot cells spot → LooksWell (rename_file (entry_at d name) form i spot)
   rename_file-shown d name form i (AtName entry None slash) h = tt
   rename_file-shown d name form i (AtName entry (Some (DirNode j)) slash) h = tt
   rename_file-shown d name form i (AtName entry (Some (FileNode kind j)) slash) h = either-shown (i == j) (Answer (told Done)) _ tt (tt, tt)
   rename_file-shown d name form i (Itself e) h = tt
 
-  rename_dir-shown : (n d : ℕ) (name : List ℕ) (i : ℕ) (spot : Spot) → IsSpot cells spot → LooksWell (rename_dir n (entry_at d name) i spot)
+  rename_dir-shown : (n d : ℕ) (name : List ℕ) (i : ℕ) (spot : PathEnd) → IsSpot cells spot → LooksWell (rename_dir n (entry_at d name) i spot)
   rename_dir-shown n d name i (AtName entry None slash) h = unless_below-shown n i entry.dir _ tt
   rename_dir-shown n d name i (AtName entry (Some (DirNode j)) slash) h = either-shown (i == j) (Answer (told Done)) _ tt (unless_below-shown n i entry.dir (replace_dir (entry_at d name) i entry j) (tt, tt))
   rename_dir-shown n d name i (AtName entry (Some (FileNode kind j)) slash) h = tt
@@ -251,17 +251,17 @@ module _ (cells : Cells) where
   seek_from-shown End o named = (named, tt)
 
   module _ (sound : AreSoundCells cells) where
-    spot-shown : (go : Spot → Looks Outcome) → ((spot : Spot) → IsSpot cells spot → LooksWell (go spot)) → (r : Result Spot Errno) → EndsWell cells r → LooksWell (or_else failed go r)
+    spot-shown : (go : PathEnd → Looks Outcome) → ((spot : PathEnd) → IsSpot cells spot → LooksWell (go spot)) → (r : Result PathEnd Errno) → EndsWell cells r → LooksWell (or_else failed go r)
     spot-shown go each (Ok spot) h = each spot h
     spot-shown go each (Err e) h = tt
 
-    from_parts-shown : (follow : Bool) (go : Spot → Looks Outcome) → ((spot : Spot) → IsSpot cells spot → LooksWell (go spot)) → (parts : Result Parts Errno) → LooksWell (from_parts follow parts go)
+    from_parts-shown : (follow : Bool) (go : PathEnd → Looks Outcome) → ((spot : PathEnd) → IsSpot cells spot → LooksWell (go spot)) → (parts : Result Parts Errno) → LooksWell (from_parts follow parts go)
     from_parts-shown follow go each (Err e) = tt
     from_parts-shown follow go each (Ok parts) =
         then-shown (walk follow parts.names parts.trailing) (or_else failed go) (walk-shown sound follow parts.names parts.trailing)
         (spot-shown go each _ (walk-ends cells sound.tree follow parts.names parts.trailing))
 
-    from_judged-shown : (fault : Option Errno) (follow : Bool) (go : Spot → Looks Outcome) → ((spot : Spot) → IsSpot cells spot → LooksWell (go spot)) → (parts : Result Parts Errno) → LooksWell (from_judged fault follow parts go)
+    from_judged-shown : (fault : Option Errno) (follow : Bool) (go : PathEnd → Looks Outcome) → ((spot : PathEnd) → IsSpot cells spot → LooksWell (go spot)) → (parts : Result Parts Errno) → LooksWell (from_judged fault follow parts go)
     from_judged-shown fault follow go each (Err e) = tt
     from_judged-shown fault follow go each (Ok parts) = unless-shown fault (from_parts follow (Ok parts) go) (from_parts-shown follow go each (Ok parts))
 
@@ -279,7 +279,7 @@ module _ (cells : Cells) where
 
     -- A path leads on from where another one led.
 
-    link_old-shown : (limits : TreeLimits) (new : Parts) (spot : Spot) → IsSpot cells spot → LooksWell (link_old limits new spot)
+    link_old-shown : (limits : TreeLimits) (new : Parts) (spot : PathEnd) → IsSpot cells spot → LooksWell (link_old limits new spot)
     link_old-shown limits new (AtName entry None slash) h = tt
     link_old-shown limits new (AtName entry (Some (DirNode i)) slash) h = tt
     link_old-shown limits new (AtName entry (Some (FileNode form i)) slash) h = from_parts-shown false (link_new limits form i) (link_new-shown limits form i) (Ok new)
@@ -290,7 +290,7 @@ module _ (cells : Cells) where
     link_parts-shown limits (Ok old) (Err e) = tt
     link_parts-shown limits (Ok old) (Ok new) = from_parts-shown false (link_old limits new) (link_old-shown limits new) (Ok old)
 
-    rename_old-shown : (n : ℕ) (new : Parts) (spot : Spot) → IsSpot cells spot → LooksWell (rename_old n new spot)
+    rename_old-shown : (n : ℕ) (new : Parts) (spot : PathEnd) → IsSpot cells spot → LooksWell (rename_old n new spot)
     rename_old-shown n new (AtName entry None slash) h = tt
     rename_old-shown n new (AtName entry (Some (DirNode i)) slash) h = from_parts-shown false (rename_dir n entry i) (rename_dir-shown n entry.dir entry.name i) (Ok new)
     rename_old-shown n new (AtName entry (Some (FileNode form i)) slash) h = from_parts-shown false (rename_file entry form i) (rename_file-shown entry.dir entry.name form i) (Ok new)

@@ -7,16 +7,16 @@ use Rattle.ft_cells.specs.declared.cell.Cell.TheVariants.{Fd}
 use Rattle.ft_cells.specs.declared.open_file.OpenFile.{OpenFile}
 use Rattle.ft_cells.specs.Looks.{Looks, Answer, answer, looked_at, all_noted, answer-then, then, or_else}
 use Rattle.ft_tree.specs.Views.{view_of}
-use Rattle.ft_cells.specs.declared.node.Spot.{Spot}
+use Rattle.ft_cells.specs.declared.node.PathEnd.{PathEnd}
 use Rattle.ft_tree.specs.Walk.{walk}
 use Rattle.ft_posix.specs.declared.intent.Intent.{Intent}
-use Rattle.ft_posix.specs.declared.intent.Stop.{Stop}
-use Rattle.ft_posix.specs.declared.intent.Stop.TheVariants.{Memory as NoMemory, Errno as Fails}
+use Rattle.ft_posix.specs.declared.intent.CallError.{CallError}
+use Rattle.ft_posix.specs.declared.intent.CallError.TheVariants.{Memory as NoMemory, Errno as Fails}
 use Rattle.ft_posix.specs.Outcomes.{Outcome, failed, from_parts, unless}
 use Rattle.ft_posix.specs.Descriptors.{on_open, with_open}
 use Rattle.ft_posix.specs.Links.{climb, unless_below}
-use Rattle.ft_posix.specs.Looking.{Looking, noted_at, noted, Finds, look_at}
-use Rattle.ft_posix.specs.Comes.{outcome_of, Comes, Leads, Says}
+use Rattle.ft_posix.specs.Looking.{Looking, noted_at, noted, Observes, look_at}
+use Rattle.ft_posix.specs.Computes.{outcome_of, Computes, Resolves, Parses}
 use Rattle.ft_posix.proofs.Recorded.{with_looks-then, all_noted-is}
 
 -- what a part looked at, and what is looked at behind it
@@ -33,7 +33,7 @@ answer-on old s f x mid is looks =
     ap (λ (l : Looking). answer (f x) (view_of l.cells)) looks ∙ ap (λ y. answer (f y) (view_of old.cells)) is ∙ sym (answer-then s f (view_of old.cells))
 
 -- where a walk leads that notes each cell which it reads
-pub leads : (old new : Looking) (follow : Bool) (read names : List (List ℕ)) (trailing : Bool) → read ≡ names → (end told : Result Spot Errno) → end ≡ told
+pub leads : (old new : Looking) (follow : Bool) (read names : List (List ℕ)) (trailing : Bool) → read ≡ names → (end told : Result PathEnd Errno) → end ≡ told
     → end ≡ answer (walk follow read trailing) (view_of old.cells) → new ≡ all_noted noted_at old (looked_at (walk follow read trailing) (view_of old.cells))
     → (told ≡ answer (walk follow names trailing) (view_of old.cells)) × (new ≡ noted old (walk follow names trailing))
 leads old new follow read names trailing same end told is led looks = (
@@ -42,23 +42,23 @@ leads old new follow read names trailing same end told is led looks = (
 )
 
 -- to go on with what was found out
-pub finds_then : {A : Type 0} (old : Looking) (s : Looks A) (f : A → Looks Outcome) (x : A) (mid new : Looking) (r : Result Intent Stop)
-    → x ≡ answer s (view_of old.cells) → mid ≡ noted old s → Comes mid (f x) new r → Comes old (then s f) new r
+pub finds_then : {A : Type 0} (old : Looking) (s : Looks A) (f : A → Looks Outcome) (x : A) (mid new : Looking) (r : Result Intent CallError)
+    → x ≡ answer s (view_of old.cells) → mid ≡ noted old s → Computes mid (f x) new r → Computes old (then s f) new r
 finds_then old s f x mid new (Ok intent) is looks h =
     (ap (λ (l : Looking). outcome_of l.cells intent) (sym looks) ∙ h.0 ∙ answer-on old s f x mid is looks, h.1 ∙ noted-then old s f x mid is looks)
 finds_then old s f x mid new (Err (Fails e)) is looks h = (h.0 ∙ answer-on old s f x mid is looks, h.1 ∙ noted-then old s f x mid is looks)
 finds_then old s f x mid new (Err NoMemory) is looks h = tt
 
 -- a call on a path: its text is read, its names are walked
-module _ (old : Looking) (text : Result Parts Errno) (go : Spot → Looks Outcome) (follow : Bool) where
+module _ (old : Looking) (text : Result Parts Errno) (go : PathEnd → Looks Outcome) (follow : Bool) where
   -- a fault of the text is answered before anything is looked at
-  pub comes_faulty : (d : Stop) → Says text (Err d) → Comes old (from_parts follow text go) old (Err d)
+  pub comes_faulty : (d : CallError) → Parses text (Err d) → Computes old (from_parts follow text go) old (Err d)
   comes_faulty (Fails e) is = (ap (λ t. answer (from_parts follow t go) (view_of old.cells)) is, ap (λ t. noted old (from_parts follow t go)) is)
   comes_faulty NoMemory is = tt
 
-  module _ (parts : Parts) (is : Says text (Ok parts)) (mid : Looking) where
+  module _ (parts : Parts) (is : Parses text (Ok parts)) (mid : Looking) where
     -- the walk fails, or wants memory
-    pub comes_lost : (d : Stop) → Leads old (walk follow parts.names parts.trailing) mid (Err d) → Comes old (from_parts follow text go) mid (Err d)
+    pub comes_lost : (d : CallError) → Resolves old (walk follow parts.names parts.trailing) mid (Err d) → Computes old (from_parts follow text go) mid (Err d)
     comes_lost (Fails e) h =
         let s = walk follow parts.names parts.trailing in (
           answer-on old s (or_else failed go) (Err e) mid h.0 h.1 ∙ ap (λ t. answer (from_parts follow t go) (view_of old.cells)) is,
@@ -67,39 +67,39 @@ module _ (old : Looking) (text : Result Parts Errno) (go : Spot → Looks Outcom
     comes_lost NoMemory h = tt
 
     -- the call goes on where the walk ends
-    pub comes_on : (spot : Spot) → Leads old (walk follow parts.names parts.trailing) mid (Ok spot) → (new : Looking) (r : Result Intent Stop) → Comes mid (go spot) new r → Comes old (from_parts follow text go) new r
+    pub comes_on : (spot : PathEnd) → Resolves old (walk follow parts.names parts.trailing) mid (Ok spot) → (new : Looking) (r : Result Intent CallError) → Computes mid (go spot) new r → Computes old (from_parts follow text go) new r
     comes_on spot h new r comes =
-        subst (λ t. Comes old (from_parts follow t go) new r) is
+        subst (λ t. Computes old (from_parts follow t go) new r) is
         (finds_then old (walk follow parts.names parts.trailing) (or_else failed go) (Ok spot) mid new r h.0 h.1 comes)
 
 -- a call on a descriptor that is open for it
-pub comes_open : (old : Looking) (fd : ℕ) (fits : OpenFile → Bool) (go : OpenFile → Looks Outcome) (place : Option OpenFile) (o : OpenFile) (mid new : Looking) (r : Result Intent Stop)
-    → Finds old (look_at (Fd fd)) mid (Ok place) → place ≡ Some o → fits o ≡ true → Comes mid (go o) new r → Comes old (with_open fd fits go) new r
+pub comes_open : (old : Looking) (fd : ℕ) (fits : OpenFile → Bool) (go : OpenFile → Looks Outcome) (place : Option OpenFile) (o : OpenFile) (mid new : Looking) (r : Result Intent CallError)
+    → Observes old (look_at (Fd fd)) mid (Ok place) → place ≡ Some o → fits o ≡ true → Computes mid (go o) new r → Computes old (with_open fd fits go) new r
 comes_open old fd fits go place o mid new r found is fit h =
-    let there : (p : Option OpenFile) → p ≡ Some o → Comes mid (on_open fits go p) new r = λ p is. subst (λ q. Comes mid (on_open fits go q) new r) (sym is) (subst (λ b. Comes mid (cond b (go o) (Answer (failed EBADF))) new r) (sym fit) h) in
+    let there : (p : Option OpenFile) → p ≡ Some o → Computes mid (on_open fits go p) new r = λ p is. subst (λ q. Computes mid (on_open fits go q) new r) (sym is) (subst (λ b. Computes mid (cond b (go o) (Answer (failed EBADF))) new r) (sym fit) h) in
     finds_then old (look_at (Fd fd)) (on_open fits go) place mid new r found.0 found.1 (there place is)
 
 -- a directory that is renamed: the way up is looked at first
-module _ (old : Looking) (n i e : ℕ) (go : Looks Outcome) (mid : Looking) (met : Bool) (found : Finds old (climb n i e) mid (Ok met)) where
-  over : (b : Bool) → met ≡ b → (new : Looking) (r : Result Intent Stop) → Comes mid (cond b (Answer (failed EINVAL)) go) new r → Comes old (unless_below n i e go) new r
+module _ (old : Looking) (n i e : ℕ) (go : Looks Outcome) (mid : Looking) (met : Bool) (found : Observes old (climb n i e) mid (Ok met)) where
+  over : (b : Bool) → met ≡ b → (new : Looking) (r : Result Intent CallError) → Computes mid (cond b (Answer (failed EINVAL)) go) new r → Computes old (unless_below n i e go) new r
   over b is new r h =
       let on : Bool → Looks Outcome = λ m. cond m (Answer (failed EINVAL)) go in
-      finds_then old (climb n i e) on met mid new r found.0 found.1 (subst (λ m. Comes mid (on m) new r) (sym is) h)
+      finds_then old (climb n i e) on met mid new r found.0 found.1 (subst (λ m. Computes mid (on m) new r) (sym is) h)
 
-  pub comes_met : met ≡ true → Comes old (unless_below n i e go) mid (Err (Fails EINVAL))
+  pub comes_met : met ≡ true → Computes old (unless_below n i e go) mid (Err (Fails EINVAL))
   comes_met is = over true is mid (Err (Fails EINVAL)) (refl, refl)
 
-  pub comes_unmet : met ≡ false → (new : Looking) (r : Result Intent Stop) → Comes mid go new r → Comes old (unless_below n i e go) new r
+  pub comes_unmet : met ≡ false → (new : Looking) (r : Result Intent CallError) → Computes mid go new r → Computes old (unless_below n i e go) new r
   comes_unmet is new r h = over false is new r h
 
 -- a call goes on with the parts that its text says
-pub comes_text : (old : Looking) (go : Result Parts Errno → Looks Outcome) (text : Result Parts Errno) (parts : Parts) → Says text (Ok parts) → (new : Looking) (r : Result Intent Stop) → Comes old (go (Ok parts)) new r → Comes old (go text) new r
-comes_text old go text parts is new r h = subst (λ t. Comes old (go t) new r) is h
+pub comes_text : (old : Looking) (go : Result Parts Errno → Looks Outcome) (text : Result Parts Errno) (parts : Parts) → Parses text (Ok parts) → (new : Looking) (r : Result Intent CallError) → Computes old (go (Ok parts)) new r → Computes old (go text) new r
+comes_text old go text parts is new r h = subst (λ t. Computes old (go t) new r) is h
 
 -- a call whose arguments have no fault goes on
-pub comes_past : (old : Looking) (fault : Option Errno) (go : Looks Outcome) → fault ≡ None → (new : Looking) (r : Result Intent Stop) → Comes old go new r → Comes old (unless fault go) new r
-comes_past old fault go clear new r h = subst (λ f. Comes old (unless f go) new r) (sym clear) h
+pub comes_past : (old : Looking) (fault : Option Errno) (go : Looks Outcome) → fault ≡ None → (new : Looking) (r : Result Intent CallError) → Computes old go new r → Computes old (unless fault go) new r
+comes_past old fault go clear new r h = subst (λ f. Computes old (unless f go) new r) (sym clear) h
 
 -- where a test for a fault fails, the call goes on
-pub comes_clear : (old : Looking) (fault : Bool) (e : Errno) (go : Looks Outcome) → fault ≡ false → (new : Looking) (r : Result Intent Stop) → Comes old go new r → Comes old (cond fault (Answer (failed e)) go) new r
-comes_clear old fault e go clear new r h = subst (λ b. Comes old (cond b (Answer (failed e)) go) new r) (sym clear) h
+pub comes_clear : (old : Looking) (fault : Bool) (e : Errno) (go : Looks Outcome) → fault ≡ false → (new : Looking) (r : Result Intent CallError) → Computes old go new r → Computes old (cond fault (Answer (failed e)) go) new r
+comes_clear old fault e go clear new r h = subst (λ b. Computes old (cond b (Answer (failed e)) go) new r) (sym clear) h

@@ -6,11 +6,11 @@ use Rattle.ft_cells.specs.declared.node.Node.{Node}
 use Rattle.ft_cells.specs.Cells.{Cells}
 use Rattle.ft_posix.specs.declared.intent.Edit.{Edit}
 use Rattle.ft_posix.specs.declared.intent.Intent.{Intent}
-use Rattle.ft_posix.specs.declared.intent.Told.TheVariants.{Done}
+use Rattle.ft_posix.specs.declared.intent.PlannedReply.TheVariants.{Done}
 use Rattle.ft_posix.specs.Outcomes.{Write, Outcome}
 use Rattle.ft_posix.specs.Links.{if_bare}
 use Rattle.ft_posix.specs.Looking.{is_none_of}
-use Rattle.ft_posix.specs.Comes.{write_of, writes_of, outcome_of}
+use Rattle.ft_posix.specs.Computes.{write_of, writes_of, outcome_of}
 
 -- more is written
 abbrev pub and_more : Outcome → List Write → Outcome

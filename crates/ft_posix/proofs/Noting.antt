@@ -3,7 +3,7 @@ use Rattle.std.proofs.Common.{◌≡◌, ℕ, List, [], ◌∷◌, Option, drop,
 use Rattle.std.specs.List.{slice_get}
 use Rattle.std.specs.Option.{option_to_list}
 use Rattle.std.specs.FinMap as finite
-use Rattle.ft_cells.specs.Cells.{Cells, stored_dirs}
+use Rattle.ft_cells.specs.Cells.{Cells, directory_count}
 use Rattle.ft_cells.specs.Looks.{Looks, Answer, Look, View, answer, looked_at}
 use Rattle.ft_tree.specs.Views.{view_of}
 use Rattle.ft_posix.specs.declared.call.Call.{Call}
@@ -16,7 +16,7 @@ use Rattle.ft_posix.specs.Steps.{steps}
 use Rattle.ft_posix.specs.Stored.{outcome}
 use Rattle.ft_posix.specs.Accesses.{Modes, with_looks, with_writes, with_accesses, listed, accesses_of}
 use Rattle.ft_posix.specs.Looking.{Looking, noted}
-use Rattle.ft_posix.specs.Comes.{writes_of, outcome_of}
+use Rattle.ft_posix.specs.Computes.{writes_of, outcome_of}
 use Rattle.ft_posix.specs.Edits.{with_edits}
 
 with_accesses-split : (s : Looks Outcome) (m : Modes) (v : View) → with_accesses m s v ≡ with_writes (with_looks m (looked_at s v)) (answer s v).writes
@@ -35,10 +35,10 @@ with_edits-writes cells (DirAttributes d to ∷ es) m = with_edits-writes cells 
 with_edits-writes cells (FileAttributes i to ∷ es) m = with_edits-writes cells es _
 with_edits-writes cells (Time i to ∷ es) m = with_edits-writes cells es _
 
-pub accesses-noted : (cells : Cells) (old mid : Looking) (k : ℕ) (call : Call) (x : Intent) → old ≡ record { cells = cells; modes = finite.empty; front = [] } → outcome_of old.cells x ≡ outcome old.cells k call → mid ≡ noted old (steps old.cells.limits (stored_dirs old.cells) k call)
+pub accesses-noted : (cells : Cells) (old mid : Looking) (k : ℕ) (call : Call) (x : Intent) → old ≡ record { cells = cells; modes = finite.empty; front = [] } → outcome_of old.cells x ≡ outcome old.cells k call → mid ≡ noted old (steps old.cells.limits (directory_count old.cells) k call)
     → listed (with_edits mid.modes x.edits) ≡ accesses_of cells k call
 accesses-noted cells old mid k call x start comes looks =
-    let s = steps old.cells.limits (stored_dirs old.cells) k call in
+    let s = steps old.cells.limits (directory_count old.cells) k call in
     let v = view_of old.cells in
     ap listed (ap (λ (l : Looking). with_edits l.modes x.edits) looks ∙ with_edits-writes old.cells x.edits (with_looks old.modes (looked_at s v))
     ∙ ap (λ (o : Outcome). with_writes (with_looks old.modes (looked_at s v)) o.writes) comes ∙ sym (with_accesses-split s old.modes v) ∙ ap (λ (l : Looking). with_accesses l.modes s v) start)

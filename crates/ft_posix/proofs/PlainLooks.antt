@@ -2,7 +2,7 @@
 use Rattle.std.proofs.Common.{List, [], ◌∷◌, sym, ap, ◌∙◌}
 use Rattle.std.specs.FinMap.{len, empty}
 use Rattle.ft_cells.specs.declared.cell.Cell.{Cell}
-use Rattle.ft_cells.specs.Cells.{Cells, stored_dirs}
+use Rattle.ft_cells.specs.Cells.{Cells, directory_count}
 use Rattle.ft_tree.specs.Views.{view_of}
 use Rattle.ft_cells.specs.Looks.{Agree, answer, looked_at, answer-agree, looked_at-agree}
 use Rattle.ft_cells.specs.Plain.{view_in}
@@ -27,8 +27,8 @@ plain_accesses cells k call sound =
     let n = len (tidy cells).dirs in
     let s = steps cells.limits n k call in
     let agree = all-shown cells sound (looked_at s (view_of cells)) (call-looks cells.limits cells sound n k call) in
-    let alike = steps-alike cells.limits cells sound.tree n (stored_dirs cells) (dirs-enough cells sound) (stored-enough cells sound.tree) k call in
+    let alike = steps-alike cells.limits cells sound.tree n (directory_count cells) (dirs-enough cells sound) (stored-enough cells sound.tree) k call in
     ap listed (with_accesses-parts s empty (view_in (tidy cells))
     ∙ ap (λ cs. with_writes (with_looks empty cs) (answer s (view_in (tidy cells))).writes) (sym (looked_at-agree s (view_of cells) (view_in (tidy cells)) agree) ∙ alike.1)
-    ∙ ap (λ o. with_writes (with_looks empty (looked_at (steps cells.limits (stored_dirs cells) k call) (view_of cells))) o.writes) (sym (answer-agree s (view_of cells) (view_in (tidy cells)) agree) ∙ alike.0)
-    ∙ sym (with_accesses-parts (steps cells.limits (stored_dirs cells) k call) empty (view_of cells)))
+    ∙ ap (λ o. with_writes (with_looks empty (looked_at (steps cells.limits (directory_count cells) k call) (view_of cells))) o.writes) (sym (answer-agree s (view_of cells) (view_in (tidy cells)) agree) ∙ alike.0)
+    ∙ sym (with_accesses-parts (steps cells.limits (directory_count cells) k call) empty (view_of cells)))

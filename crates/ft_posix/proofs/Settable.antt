@@ -16,8 +16,8 @@ use Rattle.ft_cells.specs.declared.node.Form.TheVariants.{Regular, Link as LinkF
 use Rattle.ft_cells.specs.declared.node.Node.TheVariants.{Dir as DirNode, File as FileNode}
 use Rattle.ft_cells.specs.declared.open_file.OpenFile.{OpenFile}
 use Rattle.ft_cells.specs.Looks.{Looks, Answer, Look, View, answer, then, or_else}
-use Rattle.ft_cells.specs.declared.node.Spot.{Spot}
-use Rattle.ft_cells.specs.declared.node.Spot.TheVariants.{Named, Itself}
+use Rattle.ft_cells.specs.declared.node.PathEnd.{PathEnd}
+use Rattle.ft_cells.specs.declared.node.PathEnd.TheVariants.{Named, Itself}
 use Rattle.ft_tree.specs.Walk.{walk}
 use Rattle.ft_posix.specs.declared.TheConstants.{LAST_OFFSET}
 use Rattle.ft_posix.specs.declared.call.Call.{Call}
@@ -77,7 +77,7 @@ or_else-sets : {A : Type 0} (f : A → Looks Outcome) → ((x : A) → Sets (f x
 or_else-sets f h (Ok x) v = h x v
 or_else-sets f h (Err e) v = tt
 
-from_parts-sets : (follow : Bool) (r : Result Parts Errno) (go : Spot → Looks Outcome) → ((spot : Spot) → Sets (go spot)) → Sets (from_parts follow r go)
+from_parts-sets : (follow : Bool) (r : Result Parts Errno) (go : PathEnd → Looks Outcome) → ((spot : PathEnd) → Sets (go spot)) → Sets (from_parts follow r go)
 from_parts-sets follow (Err e) go h v = tt
 from_parts-sets follow (Ok parts) go h v = then-sets (walk follow parts.names parts.trailing) (or_else failed go) (or_else-sets go h) v
 
@@ -85,7 +85,7 @@ unless-sets : (o : Option Errno) (go : Looks Outcome) → Sets go → Sets (unle
 unless-sets None go h v = h v
 unless-sets (Some e) go h v = tt
 
-from_judged-sets : (fault : Option Errno) (follow : Bool) (r : Result Parts Errno) (go : Spot → Looks Outcome) → ((spot : Spot) → Sets (go spot)) → Sets (from_judged fault follow r go)
+from_judged-sets : (fault : Option Errno) (follow : Bool) (r : Result Parts Errno) (go : PathEnd → Looks Outcome) → ((spot : PathEnd) → Sets (go spot)) → Sets (from_judged fault follow r go)
 from_judged-sets fault follow (Err e) go h v = tt
 from_judged-sets fault follow (Ok parts) go h v = unless-sets fault (from_parts follow (Ok parts) go) (from_parts-sets follow (Ok parts) go h) v
 
@@ -95,7 +95,7 @@ dir_mode-sets : (dir : ℕ) (mode : Option ℕ) → AreSettable (dir_mode dir mo
 dir_mode-sets dir None = tt
 dir_mode-sets dir (Some mode) = (tt, tt)
 
-make_dir-sets : (stamp : ℕ) (mode : Option ℕ) (spot : Spot) → Sets (make_dir stamp mode spot)
+make_dir-sets : (stamp : ℕ) (mode : Option ℕ) (spot : PathEnd) → Sets (make_dir stamp mode spot)
 make_dir-sets stamp mode (Named entry None slash) v = (tt, (tt, dir_mode-sets stamp mode))
 make_dir-sets stamp mode (Named entry (Some x) slash) v = tt
 make_dir-sets stamp mode (Itself dir) v = tt
@@ -104,7 +104,7 @@ if_empty-sets : (dir : ℕ) (name : List ℕ) (number : ℕ) (names : List (List
 if_empty-sets dir name number [] = (tt, (tt, (tt, tt)))
 if_empty-sets dir name number (e ∷ es) = tt
 
-remove_dir-sets : (spot : Spot) → Sets (remove_dir spot)
+remove_dir-sets : (spot : PathEnd) → Sets (remove_dir spot)
 remove_dir-sets (Named entry None slash) v = tt
 remove_dir-sets (Named entry (Some (FileNode form number)) slash) v = tt
 remove_dir-sets (Named entry (Some (DirNode number)) slash) v = if_empty-sets entry.dir entry.name number (v (Names number))
@@ -114,7 +114,7 @@ remove_parts-sets : (r : Result Parts Errno) → Sets (remove_parts r)
 remove_parts-sets (Err e) v = tt
 remove_parts-sets (Ok parts) v = unless-sets (last_fault (last_of parts.names)) (from_parts false (Ok parts) remove_dir) (from_parts-sets false (Ok parts) remove_dir remove_dir-sets) v
 
-list_dir-sets : (spot : Spot) → Sets (list_dir spot)
+list_dir-sets : (spot : PathEnd) → Sets (list_dir spot)
 list_dir-sets (Named entry None slash) v = tt
 list_dir-sets (Named entry (Some (FileNode form number)) slash) v = tt
 list_dir-sets (Named entry (Some (DirNode number)) slash) v = tt
@@ -131,7 +131,7 @@ open_node-sets stamp flags (DirNode file) = tt
 open_node-sets stamp flags (FileNode LinkForm file) = tt
 open_node-sets stamp flags (FileNode Regular file) = (tt, one-list flags.trunc _ _ (tt, tt) tt)
 
-open_spot-sets : (stamp : ℕ) (flags : OpenFlags) (spot : Spot) → AreSettable (open_spot stamp flags spot).writes
+open_spot-sets : (stamp : ℕ) (flags : OpenFlags) (spot : PathEnd) → AreSettable (open_spot stamp flags spot).writes
 open_spot-sets stamp flags (Named entry None slash) = one-outcome (flags.create && not slash) _ _ (tt, (tt, (tt, (tt, file_mode-sets stamp flags.mode)))) tt
 open_spot-sets stamp flags (Named entry (Some x) slash) = one-outcome (is_exclusive flags) _ _ tt (open_node-sets stamp flags x)
 open_spot-sets stamp flags (Itself dir) = one-outcome (is_exclusive flags) _ _ tt tt
@@ -139,7 +139,7 @@ open_spot-sets stamp flags (Itself dir) = one-outcome (is_exclusive flags) _ _ t
 open_parts-sets : (stamp : ℕ) (flags : OpenFlags) (r : Result Parts Errno) → Sets (open_parts stamp flags r)
 open_parts-sets stamp flags r v = from_judged-sets (open_fault flags) (not (is_exclusive flags)) r (λ spot. Answer (open_spot stamp flags spot)) (λ spot v. open_spot-sets stamp flags spot) v
 
-truncate_spot-sets : (size : ℕ) (spot : Spot) → Sets (truncate_spot size spot)
+truncate_spot-sets : (size : ℕ) (spot : PathEnd) → Sets (truncate_spot size spot)
 truncate_spot-sets size (Named entry None slash) v = tt
 truncate_spot-sets size (Named entry (Some (DirNode file)) slash) v = tt
 truncate_spot-sets size (Named entry (Some (FileNode LinkForm file)) slash) v = tt
@@ -150,7 +150,7 @@ truncate_parts-sets : (limits : TreeLimits) (len : ℤ) (r : Result Parts Errno)
 truncate_parts-sets limits len (Err e) v = tt
 truncate_parts-sets limits len (Ok parts) v = or_else-sets (λ size. from_parts true (Ok parts) (truncate_spot size)) (λ size. from_parts-sets true (Ok parts) (truncate_spot size) (truncate_spot-sets size)) (to_size limits len) v
 
-stat_spot-sets : (spot : Spot) → Sets (stat_spot spot)
+stat_spot-sets : (spot : PathEnd) → Sets (stat_spot spot)
 stat_spot-sets (Named entry None slash) v = tt
 stat_spot-sets (Named entry (Some (DirNode file)) slash) v = tt
 stat_spot-sets (Named entry (Some (FileNode Regular file)) slash) v = tt
@@ -159,14 +159,14 @@ stat_spot-sets (Itself dir) v = tt
 
 -- Attributes and times.
 
-change_spot-sets : (change : Attributes → Attributes) (at_link : Outcome) → AreSettable at_link.writes → (spot : Spot) → Sets (change_spot change at_link spot)
+change_spot-sets : (change : Attributes → Attributes) (at_link : Outcome) → AreSettable at_link.writes → (spot : PathEnd) → Sets (change_spot change at_link spot)
 change_spot-sets change at_link h (Named entry None slash) v = tt
 change_spot-sets change at_link h (Named entry (Some (DirNode dir)) slash) v = (tt, tt)
 change_spot-sets change at_link h (Named entry (Some (FileNode Regular file)) slash) v = (tt, tt)
 change_spot-sets change at_link h (Named entry (Some (FileNode LinkForm file)) slash) v = h
 change_spot-sets change at_link h (Itself dir) v = (tt, tt)
 
-time_spot-sets : (fault : Errno) (time : Timestamp) (spot : Spot) → Sets (time_spot fault time spot)
+time_spot-sets : (fault : Errno) (time : Timestamp) (spot : PathEnd) → Sets (time_spot fault time spot)
 time_spot-sets fault time (Named entry None slash) v = tt
 time_spot-sets fault time (Named entry (Some (DirNode dir)) slash) v = tt
 time_spot-sets fault time (Named entry (Some (FileNode Regular file)) slash) v = (tt, tt)
@@ -202,13 +202,13 @@ seek_open-sets fd whence off o = then-sets (seek_from whence o) (λ from. Answer
 
 -- Links.
 
-link_new-sets : (limits : TreeLimits) (form : Form) (file : ℕ) (spot : Spot) → Sets (link_new limits form file spot)
+link_new-sets : (limits : TreeLimits) (form : Form) (file : ℕ) (spot : PathEnd) → Sets (link_new limits form file spot)
 link_new-sets limits form file (Named entry None slash) v =
     one-of slash _ (Look (Links file) (λ links. Answer (link_at limits form file entry links))) (λ v. tt) (λ v. one-outcome (nat_lt (v (Links file)) limits.links) _ _ (tt, (tt, tt)) tt) v
 link_new-sets limits form file (Named entry (Some x) slash) v = tt
 link_new-sets limits form file (Itself dir) v = tt
 
-link_old-sets : (limits : TreeLimits) (new : Parts) (spot : Spot) → Sets (link_old limits new spot)
+link_old-sets : (limits : TreeLimits) (new : Parts) (spot : PathEnd) → Sets (link_old limits new spot)
 link_old-sets limits new (Named entry None slash) v = tt
 link_old-sets limits new (Named entry (Some (DirNode file)) slash) v = tt
 link_old-sets limits new (Named entry (Some (FileNode form file)) slash) v = from_parts-sets false (Ok new) (link_new limits form file) (link_new-sets limits form file) v
@@ -219,7 +219,7 @@ link_parts-sets limits (Err e) new v = tt
 link_parts-sets limits (Ok old) (Err e) v = tt
 link_parts-sets limits (Ok old) (Ok new) v = from_parts-sets false (Ok old) (link_old limits new) (link_old-sets limits new) v
 
-unlink_spot-sets : (spot : Spot) → Sets (unlink_spot spot)
+unlink_spot-sets : (spot : PathEnd) → Sets (unlink_spot spot)
 unlink_spot-sets (Named entry None slash) v = tt
 unlink_spot-sets (Named entry (Some (DirNode file)) slash) v = tt
 unlink_spot-sets (Named entry (Some (FileNode form file)) slash) v = (tt, (tt, tt))
@@ -231,7 +231,7 @@ with_parent-sets moved dir into = one-list (dir == into) _ _ tt (tt, tt)
 unless_below-sets : (most moved into : ℕ) (go : Looks Outcome) → Sets go → Sets (unless_below most moved into go)
 unless_below-sets most moved into go h = then-sets (climb most moved into) (λ met. cond met (Answer (failed _)) go) (λ met. one-of met _ go (λ v. tt) h)
 
-rename_file-sets : (dir : ℕ) (name : List ℕ) (form : Form) (moved : ℕ) (spot : Spot) → Sets (rename_file (entry_at dir name) form moved spot)
+rename_file-sets : (dir : ℕ) (name : List ℕ) (form : Form) (moved : ℕ) (spot : PathEnd) → Sets (rename_file (entry_at dir name) form moved spot)
 rename_file-sets dir name form moved (Named entry None slash) v = one-outcome slash _ _ tt (tt, (tt, tt))
 rename_file-sets dir name form moved (Named entry (Some (FileNode kind replaced)) slash) v =
     one-of (moved == replaced) _ (replace_file (entry_at dir name) (FileNode form moved) entry replaced) (λ v. tt) (λ v. (tt, (tt, (tt, tt)))) v
@@ -242,7 +242,7 @@ if_bare-sets : (dir : ℕ) (name : List ℕ) (moved into : ℕ) (other : List �
 if_bare-sets dir name moved into other replaced [] = (tt, (tt, (tt, (tt, with_parent-sets moved dir into))))
 if_bare-sets dir name moved into other replaced (e ∷ es) = tt
 
-rename_dir-sets : (most dir : ℕ) (name : List ℕ) (moved : ℕ) (spot : Spot) → Sets (rename_dir most (entry_at dir name) moved spot)
+rename_dir-sets : (most dir : ℕ) (name : List ℕ) (moved : ℕ) (spot : PathEnd) → Sets (rename_dir most (entry_at dir name) moved spot)
 rename_dir-sets most dir name moved (Named entry None slash) v = unless_below-sets most moved entry.dir _ (λ v. (tt, (tt, with_parent-sets moved dir entry.dir))) v
 rename_dir-sets most dir name moved (Named entry (Some (FileNode kind replaced)) slash) v = tt
 rename_dir-sets most dir name moved (Named entry (Some (DirNode replaced)) slash) v =
@@ -250,7 +250,7 @@ rename_dir-sets most dir name moved (Named entry (Some (DirNode replaced)) slash
     one-of (moved == replaced) _ (unless_below most moved entry.dir go) (λ v. tt) (unless_below-sets most moved entry.dir go (λ v. if_bare-sets dir name moved entry.dir entry.name replaced (v (Names replaced)))) v
 rename_dir-sets most dir name moved (Itself into) v = tt
 
-rename_old-sets : (most : ℕ) (new : Parts) (spot : Spot) → Sets (rename_old most new spot)
+rename_old-sets : (most : ℕ) (new : Parts) (spot : PathEnd) → Sets (rename_old most new spot)
 rename_old-sets most new (Named entry None slash) v = tt
 rename_old-sets most new (Named entry (Some (FileNode form moved)) slash) v = from_parts-sets false (Ok new) (rename_file entry form moved) (rename_file-sets entry.dir entry.name form moved) v
 rename_old-sets most new (Named entry (Some (DirNode moved)) slash) v = from_parts-sets false (Ok new) (rename_dir most entry moved) (rename_dir-sets most entry.dir entry.name moved) v
@@ -263,12 +263,12 @@ rename_parts-sets most (Ok old) (Ok new) v = unless-sets (rename_fault (last_of 
 
 -- Symbolic links.
 
-make_link-sets : (stamp : ℕ) (target : List ℕ) (spot : Spot) → Sets (make_link stamp target spot)
+make_link-sets : (stamp : ℕ) (target : List ℕ) (spot : PathEnd) → Sets (make_link stamp target spot)
 make_link-sets stamp target (Named entry None slash) v = one-outcome slash _ _ tt (tt, (tt, (tt, tt)))
 make_link-sets stamp target (Named entry (Some x) slash) v = tt
 make_link-sets stamp target (Itself dir) v = tt
 
-read_link-sets : (spot : Spot) → Sets (read_link spot)
+read_link-sets : (spot : PathEnd) → Sets (read_link spot)
 read_link-sets (Named entry None slash) v = tt
 read_link-sets (Named entry (Some (DirNode file)) slash) v = tt
 read_link-sets (Named entry (Some (FileNode Regular file)) slash) v = tt

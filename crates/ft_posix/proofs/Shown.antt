@@ -17,7 +17,7 @@ use Rattle.ft_cells.specs.declared.node.Node.{Node}
 use Rattle.ft_cells.specs.declared.node.Node.TheVariants.{File as FileNode}
 use Rattle.ft_cells.specs.declared.cell.Cell.{Cell}
 use Rattle.ft_cells.specs.declared.cell.Cell.TheVariants.{Entry, Names, Parent, Links, Bytes, Fd, DirAttributes, FileAttributes}
-use Rattle.ft_cells.specs.Cells.{Cells, no_contents, dir_of, dir_entry, stored_dirs, entry_of, names_of, dir_attributes_of, links_of, has_dir, has_file}
+use Rattle.ft_cells.specs.Cells.{Cells, no_contents, dir_of, dir_entry, directory_count, entry_of, names_of, dir_attributes_of, links_of, has_dir, has_file}
 use Rattle.ft_tree.specs.Views.{view_of}
 use Rattle.ft_cells.specs.Looks.{Agree, answer, looked_at, answer-agree}
 use Rattle.ft_cells.specs.declared.attributes.Attributes.{Attributes}
@@ -28,7 +28,7 @@ use Rattle.ft_posix.specs.declared.call.Call.{Call}
 use Rattle.ft_posix.specs.Steps.{steps}
 use Rattle.ft_posix.specs.Stored.{outcome}
 use Rattle.ft_posix.proofs.Climbing.{stored-enough, dirs-enough, steps-alike}
-use Rattle.ft_posix.proofs.Conjunction.{first, second, both}
+use Rattle.ft_cells.proofs.Conjunction.{first, second, both}
 use Rattle.ft_posix.proofs.Listed.{sorted_filled}
 use Rattle.ft_posix.proofs.Looked.{IsShown, AllShown, call-looks}
 use Rattle.ft_posix.proofs.Named.{Named, by_entry, by_open}
@@ -120,4 +120,4 @@ module _ (cells : Cells) (sound : AreSoundCells cells) where
   outcome-shown k call =
       let n = len (tidy cells).dirs in
       sym (answer-agree (steps cells.limits n k call) (view_of cells) (view_in (tidy cells)) (all-shown (looked_at (steps cells.limits n k call) (view_of cells)) (call-looks cells.limits cells sound n k call)))
-      ∙ (steps-alike cells.limits cells sound.tree n (stored_dirs cells) (dirs-enough cells sound) (stored-enough cells sound.tree) k call).0
+      ∙ (steps-alike cells.limits cells sound.tree n (directory_count cells) (dirs-enough cells sound) (stored-enough cells sound.tree) k call).0

@@ -20,7 +20,7 @@ use Rattle.ft_cells.specs.Cells.{Cells, DirCells, FileCells, Opens, no_dir, no_f
 use Rattle.ft_cells.specs.Plain.{PlainFile, PlainTree}
 use Rattle.ft_tree.specs.Tidy.{tidy, edges_at, edges_from, member, dirs_from, is_named, plain_file, files_from, opens_from}
 use Rattle.ft_tree.specs.Sound.{AreSoundCells}
-use Rattle.ft_posix.proofs.Conjunction.{first, second}
+use Rattle.ft_cells.proofs.Conjunction.{first, second}
 use Rattle.ft_posix.proofs.Listed.{lesser}
 use Rattle.ft_posix.proofs.Places.{file_place-linked}
 use Rattle.ft_posix.proofs.Opens.{named-open}

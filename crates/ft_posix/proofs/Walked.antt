@@ -14,8 +14,8 @@ use Rattle.ft_cells.specs.declared.node.Node.TheVariants.{Dir as DirNode, File a
 use Rattle.ft_cells.specs.Cells.{Cells, entry_of, parent_of, bytes_of}
 use Rattle.ft_tree.specs.Views.{view_of}
 use Rattle.ft_cells.specs.Looks.{Looks, Answer, Look, answer, then, or_else, answer-then}
-use Rattle.ft_cells.specs.declared.node.Spot.{Spot}
-use Rattle.ft_cells.specs.declared.node.Spot.TheVariants.{Named as AtName, Itself}
+use Rattle.ft_cells.specs.declared.node.PathEnd.{PathEnd}
+use Rattle.ft_cells.specs.declared.node.PathEnd.TheVariants.{Named as AtName, Itself}
 use Rattle.ft_tree.specs.declared.reader.Halt.{Halt}
 use Rattle.ft_tree.specs.declared.reader.Halt.TheVariants.{Fault, Onto}
 use Rattle.ft_tree.specs.declared.reader.Way.{Way}
@@ -26,12 +26,12 @@ use Rattle.ft_posix.proofs.Named.{Named, by_entry}
 
 module _ (cells : Cells) where
   -- a spot as a walk finds it: its directory is in the tree, and a name leads to its entry there
-  abbrev pub IsSpot : Spot → Type 0
+  abbrev pub IsSpot : PathEnd → Type 0
   IsSpot (AtName entry x slash) = Hangs (parent_of cells) entry.dir × (x ≡ entry_of cells entry.dir entry.name)
   IsSpot (Itself d) = Hangs (parent_of cells) d
 
   -- what a walk answers is such a spot, or an error
-  abbrev pub EndsWell : Result Spot Errno → Type 0
+  abbrev pub EndsWell : Result PathEnd Errno → Type 0
   EndsWell (Ok spot) = IsSpot spot
   EndsWell (Err e) = Unit {0}
 
@@ -47,7 +47,7 @@ module _ (cells : Cells) where
   GoesWell (Err halt) = HaltsWell halt
 
   -- what the last one answers is a spot, or such a link, or an error
-  abbrev LastWell : Result Spot Halt → Type 0
+  abbrev LastWell : Result PathEnd Halt → Type 0
   LastWell (Ok spot) = IsSpot spot
   LastWell (Err halt) = HaltsWell halt
 
@@ -113,7 +113,7 @@ module _ (cells : Cells) where
         ]
 
     -- a leg ends where its last component does
-    last-leg : (d : ℕ) → Hangs (parent_of cells) d → (r : Result Spot Halt) → LastWell r → LegWell (answer (or_else (halted d []) (λ spot. Answer (Ends (Ok spot))) r) (view_of cells))
+    last-leg : (d : ℕ) → Hangs (parent_of cells) d → (r : Result PathEnd Halt) → LastWell r → LegWell (answer (or_else (halted d []) (λ spot. Answer (Ends (Ok spot))) r) (view_of cells))
     last-leg d h (Ok spot) well = well
     last-leg d h (Err halt) well = halted-well d [] halt h well
 
@@ -142,12 +142,12 @@ module _ (cells : Cells) where
     ended-well (Meets link dir names) well = tt
 
     -- behind a link it goes on in the tree
-    way-well : (go : ℕ → List (List ℕ) → Bool → Looks (Result Spot Errno)) → ((i : ℕ) (names : List (List ℕ)) (slash : Bool) → Hangs (parent_of cells) i → EndsWell (answer (go i names slash) (view_of cells)))
+    way-well : (go : ℕ → List (List ℕ) → Bool → Looks (Result PathEnd Errno)) → ((i : ℕ) (names : List (List ℕ)) (slash : Bool) → Hangs (parent_of cells) i → EndsWell (answer (go i names slash) (view_of cells)))
         → (d : ℕ) (names : List (List ℕ)) (slash : Bool) (target : List ℕ) → Hangs (parent_of cells) d → (r : Result Parts Errno) → EndsWell (answer (or_else Err (λ (way : Way). go way.start way.names way.slash) (way_of d names slash target r)) (view_of cells))
     way-well go each d names slash target h (Ok parts) = each _ _ _ (start-hangs d target h)
     way-well go each d names slash target h (Err e) = tt
 
-    onward-well : (go : ℕ → List (List ℕ) → Bool → Looks (Result Spot Errno)) → ((i : ℕ) (names : List (List ℕ)) (slash : Bool) → Hangs (parent_of cells) i → EndsWell (answer (go i names slash) (view_of cells)))
+    onward-well : (go : ℕ → List (List ℕ) → Bool → Looks (Result PathEnd Errno)) → ((i : ℕ) (names : List (List ℕ)) (slash : Bool) → Hangs (parent_of cells) i → EndsWell (answer (go i names slash) (view_of cells)))
         → (slash : Bool) (end : Leg) → LegWell end → EndsWell (answer (onward go slash end) (view_of cells))
     onward-well go each slash (Ends end) well = well
     onward-well go each slash (Meets link dir names) well = way-well go each dir names slash (bytes_of cells link) well.1 (target_parts (bytes_of cells link))

@@ -15,8 +15,8 @@ use Rattle.ft_cells.specs.declared.cell.Cell.TheVariants.{Entry, Parent, Bytes}
 use Rattle.ft_cells.specs.declared.node.Node.{Node}
 use Rattle.ft_cells.specs.declared.node.Form.TheVariants.{Regular, Link as LinkForm}
 use Rattle.ft_cells.specs.declared.node.Node.TheVariants.{Dir as DirNode, File as FileNode}
-use Rattle.ft_cells.specs.declared.node.Spot.{Spot}
-use Rattle.ft_cells.specs.declared.node.Spot.TheVariants.{Named as AtName, Itself}
+use Rattle.ft_cells.specs.declared.node.PathEnd.{PathEnd}
+use Rattle.ft_cells.specs.declared.node.PathEnd.TheVariants.{Named as AtName, Itself}
 use Rattle.ft_cells.specs.Cells.{Cells, entry_of, bytes_of}
 use Rattle.ft_tree.specs.Views.{view_of}
 use Rattle.ft_cells.specs.Looks.{Looks, Answer, Look, answer, looked_at, then, or_else, answer-then}
@@ -67,12 +67,12 @@ module _ (cells : Cells) where
 
   module _ (seen : List Cell) where
     -- a spot whose entry is seen, with what it leads to
-    abbrev pub IsFound : Spot → Type 0
+    abbrev pub IsFound : PathEnd → Type 0
     IsFound (AtName entry x slash) = In (Entry entry) seen × (entry_of cells entry.dir entry.name ≡ x)
     IsFound (Itself d) = Unit {0}
 
     -- such a spot, or an error
-    abbrev pub EndsFound : Result Spot Errno → Type 0
+    abbrev pub EndsFound : Result PathEnd Errno → Type 0
     EndsFound (Ok spot) = IsFound spot
     EndsFound (Err e) = Unit {0}
 
@@ -98,16 +98,16 @@ module _ (cells : Cells) where
 
     -- where all that is looked at is seen, the names of its files are seen, and so it is of the
     -- answer
-    abbrev pub Finds : {A : Type 0} → (A → Type 0) → Looks A → Type 0
-    Finds P s = AreSeen seen (looked_at s (view_of cells)) → Each IsSeenOf (looked_at s (view_of cells)) × P (answer s (view_of cells))
+    abbrev pub Observes : {A : Type 0} → (A → Type 0) → Looks A → Type 0
+    Observes P s = AreSeen seen (looked_at s (view_of cells)) → Each IsSeenOf (looked_at s (view_of cells)) × P (answer s (view_of cells))
 
     -- whichever of two is taken
-    either-finds : {A : Type 0} (P : A → Type 0) (b : Bool) (s t : Looks A) → Finds P s → Finds P t → Finds P (cond b s t)
+    either-finds : {A : Type 0} (P : A → Type 0) (b : Bool) (s t : Looks A) → Observes P s → Observes P t → Observes P (cond b s t)
     either-finds P true s t p q = p
     either-finds P false s t p q = q
 
     -- behind other looks
-    then-finds : {A B : Type 0} (P : A → Type 0) (Q : B → Type 0) (s : Looks A) (f : A → Looks B) → Finds P s → ((x : A) → P x → Finds Q (f x)) → Finds Q (then s f)
+    then-finds : {A B : Type 0} (P : A → Type 0) (Q : B → Type 0) (s : Looks A) (f : A → Looks B) → Observes P s → ((x : A) → P x → Observes Q (f x)) → Observes Q (then s f)
     then-finds P Q s f first each all =
         let parts = seen-parts s f all in
         let one = first parts.0 in
@@ -118,7 +118,7 @@ module _ (cells : Cells) where
     Any x = Unit {0}
 
     -- the way up looks at no file
-    up-finds : (d : ℕ) → Finds Any (up d)
+    up-finds : (d : ℕ) → Observes Any (up d)
     up-finds d all = (Each-map (λ c. file_of c ≡ None) IsSeenOf of_none (looked_at (up d) (view_of cells)) (up-meets d), tt)
 
     -- a link that is to be followed has a name that is seen
@@ -130,7 +130,7 @@ module _ (cells : Cells) where
     GoesSeen (Ok d) = Unit {0}
     GoesSeen (Err halt) = HaltSeen halt
 
-    abbrev LastSeen : Result Spot Halt → Type 0
+    abbrev LastSeen : Result PathEnd Halt → Type 0
     LastSeen (Ok spot) = IsFound spot
     LastSeen (Err halt) = HaltSeen halt
 
@@ -150,7 +150,7 @@ module _ (cells : Cells) where
     passed-seen d name (Some (FileNode LinkForm i)) at is = sees_entry d name i at is
 
     -- a component looks at an entry, or at a parent
-    inner-finds : (d : ℕ) (name : List ℕ) → Finds GoesSeen (inner d name)
+    inner-finds : (d : ℕ) (name : List ℕ) → Observes GoesSeen (inner d name)
     inner-finds d name =
         either-finds GoesSeen (is_dot name) (Answer (Ok d)) _ (λ all. (tt, tt))
         (either-finds GoesSeen (is_dot_dot name) (then (up d) (λ p. Answer (Ok p))) (Look (Entry (entry_at d name)) (λ x. Answer (passed x)))
@@ -167,7 +167,7 @@ module _ (cells : Cells) where
         elim (follow || slash) as (λ b. LastSeen (cond b (Err (Onto i)) (Ok (AtName (entry_at d name) (Some (FileNode LinkForm i)) slash)))) [ true ↦ sees_entry d name i at is | false ↦ (at, is) ]
 
     -- and so does the last
-    last-finds : (d : ℕ) (name : List ℕ) (follow slash : Bool) → Finds LastSeen (last d name follow slash)
+    last-finds : (d : ℕ) (name : List ℕ) (follow slash : Bool) → Observes LastSeen (last d name follow slash)
     last-finds d name follow slash =
         either-finds LastSeen (is_dot name) (Answer (Ok (Itself d))) _ (λ all. (tt, tt))
         (either-finds LastSeen (is_dot_dot name) (then (up d) (λ p. Answer (Ok (Itself p)))) (Look (Entry (entry_at d name)) (λ x. Answer (reached d name follow slash x)))
@@ -175,22 +175,22 @@ module _ (cells : Cells) where
         (λ all. ((of_none (Entry (entry_at d name)) refl, tt), reached-seen d name follow slash (entry_of cells d name) all.0 refl)))
 
     -- and so does each behind it
-    last_leg-finds : (d : ℕ) (r : Result Spot Halt) → LastSeen r → Finds LegSeen (or_else (halted d []) (λ spot. Answer (Ends (Ok spot))) r)
+    last_leg-finds : (d : ℕ) (r : Result PathEnd Halt) → LastSeen r → Observes LegSeen (or_else (halted d []) (λ spot. Answer (Ends (Ok spot))) r)
     last_leg-finds d (Ok spot) h all = (tt, h)
     last_leg-finds d (Err halt) h all = (tt, halted-seen d [] halt h)
 
-    inner_leg-finds : (d : ℕ) (names : List (List ℕ)) (go : ℕ → Looks Leg) → ((i : ℕ) → Finds LegSeen (go i)) → (r : Result ℕ Halt) → GoesSeen r → Finds LegSeen (or_else (halted d names) go r)
+    inner_leg-finds : (d : ℕ) (names : List (List ℕ)) (go : ℕ → Looks Leg) → ((i : ℕ) → Observes LegSeen (go i)) → (r : Result ℕ Halt) → GoesSeen r → Observes LegSeen (or_else (halted d names) go r)
     inner_leg-finds d names go each (Ok i) h = each i
     inner_leg-finds d names go each (Err halt) h = λ all. (tt, halted-seen d names halt h)
 
-    leg_from-finds : (names : List (List ℕ)) (d : ℕ) (name : List ℕ) (follow slash : Bool) → Finds LegSeen (leg_from d name names follow slash)
+    leg_from-finds : (names : List (List ℕ)) (d : ℕ) (name : List ℕ) (follow slash : Bool) → Observes LegSeen (leg_from d name names follow slash)
     leg_from-finds [] d name follow slash =
         then-finds LastSeen LegSeen (last d name follow slash) (or_else (halted d []) (λ spot. Answer (Ends (Ok spot)))) (last-finds d name follow slash) (last_leg-finds d)
     leg_from-finds (m ∷ ms) d name follow slash =
         let go : ℕ → Looks Leg = λ i. leg_from i m ms follow slash in
         then-finds GoesSeen LegSeen (inner d name) (or_else (halted d (m ∷ ms)) go) (inner-finds d name) (inner_leg-finds d (m ∷ ms) go (λ i. leg_from-finds ms i m follow slash))
 
-    leg-finds : (d : ℕ) (names : List (List ℕ)) (follow slash : Bool) → Finds LegSeen (leg d names follow slash)
+    leg-finds : (d : ℕ) (names : List (List ℕ)) (follow slash : Bool) → Observes LegSeen (leg d names follow slash)
     leg-finds d [] follow slash = λ all. (tt, tt)
     leg-finds d (name ∷ names) follow slash = leg_from-finds names d name follow slash
 
@@ -200,19 +200,19 @@ module _ (cells : Cells) where
     ended-found (Meets link dir names) h = tt
 
     -- behind a link, which is looked at
-    way-finds : (go : ℕ → List (List ℕ) → Bool → Looks (Result Spot Errno)) → ((i : ℕ) (names : List (List ℕ)) (slash : Bool) → Finds EndsFound (go i names slash))
-        → (d : ℕ) (names : List (List ℕ)) (slash : Bool) (target : List ℕ) (r : Result Parts Errno) → Finds EndsFound (or_else Err (λ (way : Way). go way.start way.names way.slash) (way_of d names slash target r))
+    way-finds : (go : ℕ → List (List ℕ) → Bool → Looks (Result PathEnd Errno)) → ((i : ℕ) (names : List (List ℕ)) (slash : Bool) → Observes EndsFound (go i names slash))
+        → (d : ℕ) (names : List (List ℕ)) (slash : Bool) (target : List ℕ) (r : Result Parts Errno) → Observes EndsFound (or_else Err (λ (way : Way). go way.start way.names way.slash) (way_of d names slash target r))
     way-finds go each d names slash target (Ok parts) = each _ _ _
     way-finds go each d names slash target (Err e) = λ all. (tt, tt)
 
-    onward-finds : (go : ℕ → List (List ℕ) → Bool → Looks (Result Spot Errno)) → ((i : ℕ) (names : List (List ℕ)) (slash : Bool) → Finds EndsFound (go i names slash)) → (slash : Bool) (end : Leg) → LegSeen end → Finds EndsFound (onward go slash end)
+    onward-finds : (go : ℕ → List (List ℕ) → Bool → Looks (Result PathEnd Errno)) → ((i : ℕ) (names : List (List ℕ)) (slash : Bool) → Observes EndsFound (go i names slash)) → (slash : Bool) (end : Leg) → LegSeen end → Observes EndsFound (onward go slash end)
     onward-finds go each slash (Ends end) h = λ all. (tt, h)
     onward-finds go each slash (Meets link dir names) sees = λ all.
         let rest = way-finds go each dir names slash (bytes_of cells link) (target_parts (bytes_of cells link)) all.1 in
         ((of_link link sees, rest.0), rest.1)
 
     -- so does a walk from a directory
-    walk_on-finds : (left : ℕ) (follow : Bool) (d : ℕ) (names : List (List ℕ)) (slash : Bool) → Finds EndsFound (walk_on left follow d names slash)
+    walk_on-finds : (left : ℕ) (follow : Bool) (d : ℕ) (names : List (List ℕ)) (slash : Bool) → Observes EndsFound (walk_on left follow d names slash)
     walk_on-finds zero follow d names slash = then-finds LegSeen EndsFound (leg d names follow slash) (λ end. Answer (ended end)) (leg-finds d names follow slash) (λ end h all. (tt, ended-found end h))
     walk_on-finds (suc left) follow d names slash =
         then-finds LegSeen EndsFound (leg d names follow slash) (onward (walk_on left follow) slash) (leg-finds d names follow slash)
@@ -220,5 +220,5 @@ module _ (cells : Cells) where
 
     -- a walk looks at no file but at links whose name is seen, and ends at an entry that it has
     -- looked at, at a directory, or with an error
-    pub walk-finds : (follow : Bool) (names : List (List ℕ)) (slash : Bool) → Finds EndsFound (walk follow names slash)
+    pub walk-finds : (follow : Bool) (names : List (List ℕ)) (slash : Bool) → Observes EndsFound (walk follow names slash)
     walk-finds follow names slash = walk_on-finds MOST_FOLLOWED follow 1 names slash

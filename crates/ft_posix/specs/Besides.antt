@@ -1,5 +1,5 @@
--- Accesses that are told but for reads of cells of which these are known in advance: the entries on
--- the way of a path's front.
+-- Accesses, except for reads of cells that are known in advance: the entries on the way of a path's
+-- front.
 use Rattle.std.specs.Prelude.{◌≡◌, ◌≢◌, ◌⊎◌, List, [], ◌∷◌, Some, None}
 use Rattle.std.specs.FinMap as finite
 use Rattle.ft_laws.specs.Lists.{In}
@@ -8,11 +8,11 @@ use Rattle.ft_posix.specs.declared.call.Mode.TheVariants.{Read as ReadMode, Writ
 use Rattle.ft_posix.specs.declared.call.Access.{Access}
 use Rattle.ft_posix.specs.Accesses.{Modes, listed}
 
--- some modes are these ones, where a cell of the front may lack that is read
+-- the first modes are the second, except that a cell of the front that is read may be missing
 abbrev pub AreBut : List Cell → Modes → Modes → Type 0
 AreBut front some all = (c : Cell) → (finite.get some c ≡ finite.get all c) ⊎ (In c front × (finite.get some c ≡ None) × (finite.get all c ≡ Some ReadMode))
 
--- the list has each access of these modes, but for some reads of the front
+-- the list has each access of these modes, except for some reads of the front
 pub record AreListedBut (front : List Cell) (modes : Modes) (list : List Access) : Type 0 where
   pub some : Modes
   pub are : AreBut front some modes
@@ -22,7 +22,7 @@ pub record AreListedBut (front : List Cell) (modes : Modes) (list : List Access)
 abbrev pub IsReadOf : List Cell → Access → Type 0
 IsReadOf front a = In a.cell front × (a.mode ≡ ReadMode)
 
--- Two lists have the same accesses, but for reads of cells of the front.
+-- Two lists have the same accesses, except for reads of cells of the front.
 pub record AreAlikeBut (front : List Cell) (xs ys : List Access) : Type 0 where
   pub one : (a : Access) → In a xs → In a ys ⊎ IsReadOf front a
   pub other : (a : Access) → In a ys → In a xs ⊎ IsReadOf front a
@@ -32,6 +32,6 @@ abbrev pub reads_of : List Cell → List Access
 reads_of [] = []
 reads_of (c ∷ cs) = record { cell = c; mode = ReadMode } ∷ reads_of cs
 
--- none is written
+-- no cell is written
 abbrev pub AreReads : Modes → Type 0
 AreReads modes = (c : Cell) → finite.get modes c ≢ Some WriteMode

@@ -5,7 +5,7 @@ use Rattle.ft_cells.specs.CellOrder.{same_cell}
 use Rattle.ft_cells.specs.Cells.{Cells, HasDirPlace, HasEntryPlace}
 use Rattle.ft_tree.specs.Held.{Holds, held, set_cell, place_at, without_place, IsStored, CanSet}
 
--- to set a cell sets it and no other; every place stays, and the cell has its place then
+-- setting a cell changes no other cell; every place stays, and the cell then has its place
 pub record SettingLaw : Type 0 where
   pub written : (cells : Cells) (c : Cell) (to : Holds c) → held (set_cell cells c to) c ≡ to
   pub kept : (cells : Cells) (c : Cell) (to : Holds c) (other : Cell) → same_cell c other ≡ false → held (set_cell cells c to) other ≡ held cells other
@@ -14,8 +14,8 @@ pub record SettingLaw : Type 0 where
   -- the place of an entry is in a directory that is stored
   pub within : (cells : Cells) (d : ℕ) (name : List ℕ) → HasEntryPlace cells d name → HasDirPlace cells d
 
--- a cell that was set gives the cells back as they were: what stood in its place is set again, or
--- a place that was new is taken away
+-- the earlier cells can be restored after a cell was set: the old value of its place is set again,
+-- or a new place is removed
 pub record RestoringLaw : Type 0 where
   pub again : (cells : Cells) (c : Cell) (to was : Holds c) → place_at cells c ≡ Some was → set_cell (set_cell cells c to) c was ≡ cells
   pub new : (cells : Cells) (c : Cell) (to : Holds c) → CanSet cells c → place_at cells c ≡ None → without_place (set_cell cells c to) c ≡ cells

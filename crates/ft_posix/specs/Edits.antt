@@ -1,4 +1,4 @@
--- The edits of a call: what they leave, and when they can be made.
+-- The edits of a call: the cells after them, and when they can be made.
 use Rattle.std.specs.Prelude.{◌≡◌, ◌≤◌, ℕ, false, List, [], ◌∷◌}
 use Rattle.std.specs.FinMap as finite
 use Rattle.ft_body.specs.declared.TheConstants.{LARGEST_SIZE}
@@ -15,7 +15,7 @@ use Rattle.ft_posix.specs.declared.intent.Edit.TheVariants.{Entry, Parent, Links
 use Rattle.ft_posix.specs.Outcomes.{Write}
 use Rattle.ft_posix.specs.Accesses.{Modes, written_cell}
 use Rattle.ft_posix.specs.Stored.{put, put_all, outcome}
-use Rattle.ft_posix.specs.Comes.{write_of, writes_of}
+use Rattle.ft_posix.specs.Computes.{write_of, writes_of}
 
 -- the cell that is edited
 abbrev pub edit_cell : Edit → Cell
@@ -34,7 +34,7 @@ abbrev pub with_edits : Modes → List Edit → Modes
 with_edits m [] = m
 with_edits m (e ∷ es) = with_edits (finite.insert m (edit_cell e) WriteMode) es
 
--- a cell is none of those that are edited
+-- the cell is none of the edited cells
 abbrev pub IsOther : Cell → List Edit → Type 0
 IsOther c [] = Unit {0}
 IsOther c (e ∷ es) = (same_cell c (edit_cell e) ≡ false) × IsOther c es
@@ -44,7 +44,7 @@ abbrev pub Apart : List Edit → Type 0
 Apart [] = Unit {0}
 Apart (e ∷ es) = IsOther (edit_cell e) es × Apart es
 
--- the cells with the edits made, one after the other
+-- the cells after the edits, made one after another
 abbrev pub edited : Cells → List Edit → Cells
 edited cells [] = cells
 edited cells (e ∷ es) = edited (put cells (write_of cells e)) es
@@ -61,12 +61,12 @@ CanEdit cells (DirAttributes d to) = HasDirPlace cells d
 CanEdit cells (FileAttributes i to) = HasFilePlace cells i
 CanEdit cells (Time i to) = HasFilePlace cells i
 
--- each of the edits can, once those before it are made
+-- each edit can be made after those before it
 abbrev pub CanEditAll : Cells → List Edit → Type 0
 CanEditAll cells [] = Unit {0}
 CanEditAll cells (e ∷ es) = CanEdit cells e × CanEditAll (put cells (write_of cells e)) es
 
--- the same of writes: a cell is none of those that are written
+-- the cell is none of the written cells
 abbrev pub IsOtherThan : Cell → List Write → Type 0
 IsOtherThan c [] = Unit {0}
 IsOtherThan c (w ∷ ws) = (same_cell c (written_cell w) ≡ false) × IsOtherThan c ws
@@ -76,21 +76,21 @@ abbrev pub AreApart : List Write → Type 0
 AreApart [] = Unit {0}
 AreApart (w ∷ ws) = IsOtherThan (written_cell w) ws × AreApart ws
 
--- a write has its place, or can make it
+-- the cell of a write has its place, or can make it
 abbrev pub CanPut : Cells → Write → Type 0
 CanPut cells w = CanSet cells (written_cell w)
 
--- each of the writes has, once those before it are made
+-- each write can be put after those before it
 abbrev pub CanPutAll : Cells → List Write → Type 0
 CanPutAll cells [] = Unit {0}
 CanPutAll cells (w ∷ ws) = CanPut cells w × CanPutAll (put cells w) ws
 
--- writes are to different cells, each of which has its place or can make it
+-- the writes set different cells, each of which has its place or can make it
 pub record CanBeMade (cells : Cells) (ws : List Write) : Type 0 where
   pub places : CanPutAll cells ws
   pub apart : AreApart ws
 
--- so are those of a call on sound cells
+-- the writes of a call on sound cells can be made
 abbrev pub PlacesLaw : Type 0
 PlacesLaw = (cells : Cells) (stamp : ℕ) (call : Call) → AreSoundCells cells → CanBeMade cells (outcome cells stamp call).writes
 
@@ -99,9 +99,9 @@ abbrev pub SameOn : Cells → Cells → List Edit → Type 0
 SameOn s t [] = Unit {0}
 SameOn s t (e ∷ es) = (held s (edit_cell e) ≡ held t (edit_cell e)) × SameOn s t es
 
--- edits of different cells do not come in each other's way
+-- edits of different cells do not affect each other
 pub record EditingLaw : Type 0 where
-  -- they leave what their writes leave, seen from before all of them
+  -- the edits leave the cells that their writes leave, as computed before all of them
   pub made : (cells : Cells) (edits : List Edit) → Apart edits → edited cells edits ≡ put_all cells (writes_of cells edits)
-  -- each finds its cell as it was before
+  -- the cell of each later edit is as it was before
   pub undisturbed : (s old : Cells) (e : Edit) (es : List Edit) → IsOther (edit_cell e) es → SameOn s old es → SameOn (put s (write_of s e)) old es

@@ -1,4 +1,4 @@
--- The execution of a call on the plain tree: what a call does for who sees the tree alone.
+-- The execution of a call on the plain tree: its effect for an observer who sees only the tree.
 use Rattle.std.specs.Prelude.{ℕ, Bool, cond, ◌==◌, ◌||◌, List, [], ◌∷◌, Option, Some, None}
 use Rattle.std.specs.List.{list_any}
 use Rattle.std.specs.Option.{option_flatten}
@@ -20,13 +20,13 @@ use Rattle.ft_posix.specs.declared.call.Reply.{Reply}
 use Rattle.ft_posix.specs.Outcomes.{Write}
 use Rattle.ft_posix.specs.Steps.{steps}
 
--- an edge is drawn, or taken away
+-- an edge is set, or removed
 abbrev pub set_edge : finite.FinMap entry_cmp Node → DirEntry → Option Node → finite.FinMap entry_cmp Node
 set_edge edges e (Some x) = finite.insert edges e x
 set_edge edges e None = finite.remove edges e
 
--- a directory comes or goes with its parent, and the root never goes; one that goes elsewhere
--- keeps its attributes
+-- a directory is added or removed with its parent, and the root is never removed; a directory that
+-- is moved keeps its attributes
 abbrev pub set_dir : PlainDirs → ℕ → Option ℕ → PlainDirs
 set_dir dirs d (Some p) = finite.insert dirs d (option_flatten (finite.get dirs d))
 set_dir dirs d None = cond (d == 1) dirs (finite.remove dirs d)
@@ -35,13 +35,14 @@ set_dir dirs d None = cond (d == 1) dirs (finite.remove dirs d)
 abbrev pub set_dir_attributes : PlainDirs → ℕ → Option Attributes → PlainDirs
 set_dir_attributes dirs d to = cond (finite.contains_key dirs d) (finite.insert dirs d to) dirs
 
--- a description is set, or taken away
+-- a description is set, or removed
 abbrev pub set_open : finite.FinMap nat_cmp OpenFile → ℕ → Option OpenFile → finite.FinMap nat_cmp OpenFile
 set_open opens f (Some o) = finite.insert opens f o
 set_open opens f None = finite.remove opens f
 
--- a cell is set in a plain tree. Links are not kept: they are the count of the edges. Of a file the
--- attributes stay where its contents are set, and the other way round.
+-- a cell is set in a plain tree. Links are not kept: they are the count of the edges. The
+-- attributes of a file stay if its contents are set, and its contents stay if its attributes are
+-- set.
 abbrev pub set_plain : PlainTree → (c : Cell) → Holds c → PlainTree
 set_plain p (Entry entry) to = record p { edges = set_edge p.edges entry to }
 set_plain p (Names d) to = p
@@ -52,7 +53,7 @@ set_plain p (Fd f) to = record p { opens = set_open p.opens f to }
 set_plain p (DirAttributes d) to = record p { dirs = set_dir_attributes p.dirs d to }
 set_plain p (FileAttributes i) to = record p { files = finite.insert p.files i (record { attributes = to; contents = view_in p (Bytes i) }) }
 
--- the cell of a write is set in it
+-- the cell of a write is set in a plain tree
 abbrev pub put_plain : PlainTree → Write → PlainTree
 put_plain p w = set_plain p w.cell w.value
 
@@ -65,7 +66,7 @@ put_all_plain p (w ∷ ws) = put_all_plain (put_plain p w) ws
 abbrev pub is_named_in : PlainTree → ℕ → Bool
 is_named_in p i = list_any (λ e. number_of e.1 == i) (finite.entries p.edges) || list_any (λ e. e.1.file == i) (finite.entries p.opens)
 
--- a file that neither names is gone (POSIX.1-2017, System Interfaces, unlink and close)
+-- the tree without the files that nothing names (POSIX.1-2017, System Interfaces, unlink and close)
 abbrev pub without_dead_files : PlainTree → PlainTree
 without_dead_files p = record p { files = finite.retain_keys p.files (is_named_in p) }
 

@@ -1,5 +1,5 @@
--- What the calls on files look at, and what they come to. The order of their errors is a rule of
--- this project.
+-- The looks and the outcomes of the calls on files. The order of their errors is a rule of this
+-- project.
 use Rattle.std.specs.Prelude.{ℕ, Bool, true, cond, not, ◌&&◌, nat_le, ℤ, pos, negsuc, length, [], ◌∷◌, Option, Some, None, Result, Ok, Err}
 use Rattle.ft_body.specs.Bytes.{resized}
 use Rattle.ft_path.specs.declared.path.Parts.{Parts}
@@ -19,8 +19,8 @@ use Rattle.ft_cells.specs.Modes.{can_write}
 use Rattle.ft_cells.specs.declared.attributes.Attributes.{Attributes}
 use Rattle.ft_cells.specs.Cells.{untimed, no_contents}
 use Rattle.ft_cells.specs.Looks.{Looks, Answer, Look, then, or_else}
-use Rattle.ft_cells.specs.declared.node.Spot.{Spot}
-use Rattle.ft_cells.specs.declared.node.Spot.TheVariants.{Named, Itself}
+use Rattle.ft_cells.specs.declared.node.PathEnd.{PathEnd}
+use Rattle.ft_cells.specs.declared.node.PathEnd.TheVariants.{Named, Itself}
 use Rattle.ft_posix.specs.declared.call.OpenFlags.{OpenFlags}
 use Rattle.ft_posix.specs.declared.call.Reply.TheVariants.{Done, Number, Info}
 use Rattle.ft_posix.specs.Outcomes.{sets, Outcome, failed, told, from_parts, from_judged}
@@ -28,40 +28,40 @@ use Rattle.ft_posix.specs.Attributes.{mode_fault, file_mode}
 
 -- open (POSIX.1-2017, System Interfaces, open)
 
--- a new description: at offset 0, with the access and the append flag that were asked for
+-- a new description: at offset 0, with the access and the append flag of the call
 abbrev pub description : OpenFlags → ℕ → OpenFile
 description flags file = record { file = file; access = flags.access; append = flags.append; offset = 0 }
 
--- a missing file is made (O_CREAT), with one link, no bytes and the mode that is given: its number
--- is the call's stamp, and so is the descriptor's (a rule of this project)
+-- a missing file is made (O_CREAT), with one link, no bytes and the given mode: its number is the
+-- call's stamp, and so is the descriptor's (a rule of this project)
 abbrev pub creates : ℕ → OpenFlags → DirEntry → Outcome
 creates stamp flags entry = record {
   reply = Number stamp;
   writes = sets (Links stamp) 1 ∷ sets (Bytes stamp) no_contents ∷ sets (Fd stamp) (Some (description flags stamp)) ∷ sets (Entry entry) (Some (FileNode Regular stamp)) ∷ file_mode stamp flags.mode;
 }
 
--- a descriptor for an existing file, which is cut to nothing where that is asked (O_TRUNC)
+-- a descriptor for an existing file, which is cut to size 0 with trunc (O_TRUNC)
 abbrev pub opens : ℕ → OpenFlags → ℕ → Outcome
 opens stamp flags file = record {
   reply = Number stamp;
   writes = sets (Fd stamp) (Some (description flags file)) ∷ cond flags.trunc (sets (Bytes file) no_contents ∷ []) [];
 }
 
--- a directory is EISDIR, in every mode: for reading a choice of this project. A link is ELOOP,
--- which no call reaches, since the walk has followed it.
+-- a directory is EISDIR, in every mode: for reading this is a choice of this project. A link is
+-- ELOOP, which no call reaches, since the walk has followed it.
 abbrev pub open_node : ℕ → OpenFlags → Node → Outcome
 open_node stamp flags (DirNode file) = failed EISDIR
 open_node stamp flags (FileNode Regular file) = opens stamp flags file
 open_node stamp flags (FileNode LinkForm file) = failed ELOOP
 
--- with create and excl together an existing name is refused (O_EXCL). excl alone has no effect, a
--- choice of this project, since POSIX leaves it undefined without O_CREAT
+-- with create and excl together an existing name is refused (O_EXCL). excl has no effect without
+-- create, a choice of this project, since POSIX leaves it undefined without O_CREAT
 abbrev pub is_exclusive : OpenFlags → Bool
 is_exclusive flags = flags.create && flags.excl
 
--- open where the walk ended: a missing name without create, or with a slash behind it, is ENOENT,
--- an existing one with create and excl EEXIST, and a directory EISDIR
-abbrev pub open_spot : ℕ → OpenFlags → Spot → Outcome
+-- open at the end of the walk: a missing name without create, or with a slash after it, is ENOENT;
+-- an existing one with create and excl is EEXIST; a directory is EISDIR
+abbrev pub open_spot : ℕ → OpenFlags → PathEnd → Outcome
 open_spot stamp flags (Named entry None slash) = cond (flags.create && not slash) (creates stamp flags entry) (failed ENOENT)
 open_spot stamp flags (Named entry (Some x) slash) = cond (is_exclusive flags) (failed EEXIST) (open_node stamp flags x)
 open_spot stamp flags (Itself dir) = cond (is_exclusive flags) (failed EEXIST) (failed EISDIR)
@@ -71,9 +71,9 @@ open_spot stamp flags (Itself dir) = cond (is_exclusive flags) (failed EEXIST) (
 abbrev pub open_fault : OpenFlags → Option Errno
 open_fault flags = cond (flags.trunc && not (can_write flags.access)) (Some EINVAL) (mode_fault flags.mode)
 
--- open from the parts of its path on: the fault of the text, that of the arguments, and where the
--- walk leads. It follows a last link, but with create and excl, which refuse any name that is
--- there (XSH open, O_EXCL).
+-- open from the parts of its path on: the fault of the text, the fault of the arguments, and the
+-- end of the walk. It follows a last link, except with create and excl, which refuse any name that
+-- is there (XSH open, O_EXCL).
 abbrev pub open_parts : ℕ → OpenFlags → Result Parts Errno → Looks Outcome
 open_parts stamp flags parts = from_judged (open_fault flags) (not (is_exclusive flags)) parts (λ spot. Answer (open_spot stamp flags spot))
 
@@ -83,26 +83,26 @@ open_parts stamp flags parts = from_judged (open_fault flags) (not (is_exclusive
 abbrev pub size_within : TreeLimits → ℕ → Result ℕ Errno
 size_within limits n = cond (nat_le n limits.file_size) (Ok n) (Err EFBIG)
 
--- a length that a file may have: below zero it is EINVAL, and above the limit EFBIG
+-- a length that a file may have: a length below zero is EINVAL, and one above the limit EFBIG
 abbrev pub to_size : TreeLimits → ℤ → Result ℕ Errno
 to_size limits (pos n) = size_within limits n
 to_size limits (negsuc n) = Err EINVAL
 
--- the file is cut to a length, or zeros are added up to it; its time goes
+-- the file is cut to a length, or zeros are added up to it; it loses its time
 abbrev pub cut_file : ℕ → ℕ → Looks Outcome
 cut_file file size = Look (Bytes file) (λ contents. Answer (record { reply = Done; writes = sets (Bytes file) (untimed (resized contents.bytes size)) ∷ [] }))
 
--- truncate where the walk ended, which follows links: a missing name is ENOENT, and a directory
+-- truncate at the end of the walk, which follows links: a missing name is ENOENT, and a directory
 -- EISDIR. A link is ELOOP, which no call reaches.
-abbrev pub truncate_spot : ℕ → Spot → Looks Outcome
+abbrev pub truncate_spot : ℕ → PathEnd → Looks Outcome
 truncate_spot size (Named entry None slash) = Answer (failed ENOENT)
 truncate_spot size (Named entry (Some (DirNode file)) slash) = Answer (failed EISDIR)
 truncate_spot size (Named entry (Some (FileNode Regular file)) slash) = cut_file file size
 truncate_spot size (Named entry (Some (FileNode LinkForm file)) slash) = Answer (failed ELOOP)
 truncate_spot size (Itself dir) = Answer (failed EISDIR)
 
--- truncate from the parts of its path on: the fault of the text, that of the length, and where
--- the walk leads
+-- truncate from the parts of its path on: the fault of the text, the fault of the length, and the
+-- end of the walk
 abbrev pub truncate_parts : TreeLimits → ℤ → Result Parts Errno → Looks Outcome
 truncate_parts limits len (Err e) = Answer (failed e)
 truncate_parts limits len (Ok parts) = or_else failed (λ size. from_parts true (Ok parts) (truncate_spot size)) (to_size limits len)
@@ -125,8 +125,8 @@ abbrev pub file_info : Form → ℕ → Looks Outcome
 file_info form file =
     Look (Links file) (λ links. Look (Bytes file) (λ contents. then (attributes_at form file) (λ attributes. Answer (told (Info (kind_of_node (FileNode form file)) file links (length contents.bytes) attributes contents.time)))))
 
--- stat and lstat where the walk ended: a missing name is ENOENT
-abbrev pub stat_spot : Spot → Looks Outcome
+-- stat and lstat at the end of the walk: a missing name is ENOENT
+abbrev pub stat_spot : PathEnd → Looks Outcome
 stat_spot (Named entry None slash) = Answer (failed ENOENT)
 stat_spot (Named entry (Some (DirNode dir)) slash) = dir_info dir
 stat_spot (Named entry (Some (FileNode form file)) slash) = file_info form file

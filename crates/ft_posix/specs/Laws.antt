@@ -1,4 +1,4 @@
--- Laws of the calls, each the contract of a function of `laws`.
+-- Laws of the calls. Each is the contract of a function of `laws`.
 use Rattle.std.specs.Prelude.{◌≡◌, ◌≢◌, ℕ, Bool, false, ◌&&◌, List, [], ◌∷◌}
 use Rattle.std.specs.List.{list_any}
 use Rattle.ft_cells.specs.declared.cell.Cell.{Cell}
@@ -14,35 +14,36 @@ use Rattle.ft_posix.specs.Perform.{OnlyTells}
 use Rattle.ft_posix.specs.Stored.{outcome, after}
 use Rattle.ft_posix.specs.Accesses.{is_write, accesses_of, some_conflict}
 
--- a call whose stamp numbers nothing leaves sound cells
+-- a call whose stamp numbers nothing leaves sound cells sound
 abbrev pub SoundnessLaw : Type 0
 SoundnessLaw = (cells : Cells) (stamp : ℕ) (call : Call) → AreSoundCells cells → IsFree cells stamp → AreSoundCells (after cells stamp call)
 
--- it leaves each other number free that was free
+-- a call leaves each free number free, except its own stamp
 abbrev pub FreshnessLaw : Type 0
 FreshnessLaw = (cells : Cells) (stamp : ℕ) (call : Call) → AreSoundCells cells → IsFree cells stamp → (other : ℕ) → IsFree cells other → other ≢ stamp → IsFree (after cells stamp call) other
 
--- a call on sound cells, whose stamp numbers nothing, does on the plain tree that they are what
--- it does on them: the same tree after it, and the same reply
+-- a call on sound cells, whose stamp numbers nothing, does the same on their plain tree: it leaves
+-- the same tree and has the same reply
 abbrev pub TidyingLaw : Type 0
 TidyingLaw = (cells : Cells) (stamp : ℕ) (call : Call) → AreSoundCells cells → IsFree cells stamp → exec (tidy cells) stamp call ≡ (tidy (after cells stamp call), (outcome cells stamp call).reply)
 
--- cells of equal values are one plain tree, sound alike, with the same numbers free
+-- the new cells are the same plain tree as the old ones, are sound, and leave the old free numbers
+-- free
 pub record MakesNoDifference (old new : Cells) : Type 0 where
   pub plain : tidy new ≡ tidy old
   pub sound : AreSoundCells new
   pub free : (number : ℕ) → IsFree old number → IsFree new number
 
--- so are cells with the values and the places of sound ones: only values count, and not which
--- empty places there are
+-- cells with the values and the places of sound ones make no difference: only values count, and not
+-- the empty places
 abbrev pub ValuesLaw : Type 0
 ValuesLaw = (old new : Cells) → AreSoundCells old → KeepsValues old new → MakesNoDifference old new
 
--- sound cells are a sound plain tree (`IsSoundTree`)
+-- the plain tree of sound cells is sound (`IsSoundTree`)
 abbrev pub PlainSoundnessLaw : Type 0
 PlainSoundnessLaw = (cells : Cells) → AreSoundCells cells → IsSoundTree (tidy cells)
 
--- each cell that is accessed shows the same in both
+-- each accessed cell shows the same in both
 abbrev pub AgreeOn : Cells → Cells → List Access → Type 0
 AgreeOn one other [] = Unit {0}
 AgreeOn one other (access ∷ more) = (view_of one access.cell ≡ view_of other access.cell) × AgreeOn one other more
@@ -57,17 +58,16 @@ pub record ActsAlike (one other : Cells) (stamp : ℕ) (call : Call) : Type 0 wh
   pub reply : (outcome other stamp call).reply ≡ (outcome one stamp call).reply
   pub writes : (outcome other stamp call).writes ≡ (outcome one stamp call).writes
 
--- the frame law: on sound cells that allow the same, and show the same in each cell that a call
--- accesses in one of them, it has the same accesses, the same reply and the same writes
+-- the frame law: if sound cells have equal limits, and show the same in each cell that a call
+-- accesses in one of them, the call has the same accesses, the same reply and the same writes
 abbrev pub FrameLaw : Type 0
 FrameLaw = (one other : Cells) (stamp : ℕ) (call : Call) → AreSoundCells one → AreSoundCells other → IsFree one stamp → IsFree other stamp → one.limits ≡ other.limits → AgreeOn one other (accesses_of one stamp call) → ActsAlike one other stamp call
 
--- nothing but the written cells changes: a cell that overlaps none of them shows what it showed
--- before
+-- only the written cells change: a cell that overlaps none of them shows what it showed before
 abbrev pub KeptLaw : Type 0
 KeptLaw = (cells : Cells) (stamp : ℕ) (call : Call) (cell : Cell) → is_written (accesses_of cells stamp call) cell ≡ false → view_of (after cells stamp call) cell ≡ view_of cells cell
 
--- two calls in the other order: the same replies, and cells of the same values
+-- two calls in the other order: their replies are the same, and they leave cells of the same values
 pub record AreExchanged (cells : Cells) (stamp : ℕ) (call : Call) (next_stamp : ℕ) (next_call : Call) : Type 0 where
   pub first : (outcome (after cells next_stamp next_call) stamp call).reply ≡ (outcome cells stamp call).reply
   pub second : (outcome cells next_stamp next_call).reply ≡ (outcome (after cells stamp call) next_stamp next_call).reply
@@ -78,6 +78,6 @@ abbrev pub ExchangeLaw : Type 0
 ExchangeLaw = (cells : Cells) (stamp : ℕ) (call : Call) (next_stamp : ℕ) (next_call : Call) → AreSoundCells cells → IsFree cells stamp → IsFree cells next_stamp → stamp ≢ next_stamp
     → some_conflict (accesses_of cells stamp call) (accesses_of (after cells stamp call) next_stamp next_call) ≡ false → AreExchanged cells stamp call next_stamp next_call
 
--- a call whose reply only tells writes nothing
+-- a call whose reply only reports something writes nothing
 abbrev pub TellingLaw : Type 0
 TellingLaw = (cells : Cells) (stamp : ℕ) (call : Call) → AreSoundCells cells → OnlyTells (outcome cells stamp call).reply → (outcome cells stamp call).writes ≡ []

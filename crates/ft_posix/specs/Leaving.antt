@@ -1,4 +1,4 @@
--- What writes and calls leave of no use, which a sweep may drop.
+-- The useless cells that writes and calls leave, which a sweep may drop.
 use Rattle.std.specs.Prelude.{◌≡◌, ◌⊎◌, ℕ, Bool, true, List, Some}
 use Rattle.ft_laws.specs.Lists.{any}
 use Rattle.ft_laws.specs.Effects.{Access as PlaceAccess, is_written}
@@ -14,7 +14,7 @@ use Rattle.ft_posix.specs.Stored.{put_all}
 use Rattle.ft_posix.specs.Posix.{Stamped, HasSoundValues, file_of, names_file, does, posix, posix_calls}
 use Rattle.ft_posix.specs.RunLaws.{writes_cell}
 
--- an access is of this very cell
+-- an access is to this very cell
 abbrev pub accesses_cell : List (PlaceAccess Cell) → Cell → Bool
 accesses_cell accesses c = any (λ a. same_cell a.place c) accesses
 
@@ -25,19 +25,18 @@ pub record IsOfOpenFile (cells : Cells) (c : Cell) : Type 0 where
   pub belongs : file_of c ≡ Some file
   pub opened : names_file (Fd descriptor) (held cells (Fd descriptor)) file ≡ true
 
--- What is of no use after writes was so before, or they write a cell of its place, or it is of a
--- file that was open.
+-- A cell that is useless after writes was useless before, or the writes set a cell of its place, or
+-- it belongs to a file that was open.
 abbrev pub LeavingLaw : Type 0
 LeavingLaw = (cells : Cells) (writes : List Write) (c : Cell) → is_useless (put_all cells writes) c ≡ true
     → (is_useless cells c ≡ true) ⊎ ((at_place (is_written posix writes) c ≡ true) ⊎ IsOfOpenFile cells c)
 
--- What is of no use after a call was so before, or the call accesses a cell of its place.
+-- A cell that is useless after a call was useless before, or the call accesses a cell of its place.
 abbrev pub UselessLaw : Type 0
 UselessLaw = (cells : Cells) (call : Stamped) → AreSoundCells cells → IsFree cells call.stamp → (c : Cell) → is_useless (posix_calls.act cells call) c ≡ true
     → (is_useless cells c ≡ true) ⊎ (at_place (accesses_cell (does cells call).accesses) c ≡ true)
 
--- A call that leaves the name of the file that has its stamp for a number writes a cell of this
--- file.
+-- A call that leaves the name of the file whose number is its stamp writes a cell of this file.
 abbrev pub MakingLaw : Type 0
 MakingLaw = (cells : Cells) (call : Stamped) → HasSoundValues cells → IsFree cells call.stamp → (x : Cell) → names_file x (held (posix_calls.act cells call) x) call.stamp ≡ true
     → (c : Cell) × (file_of c ≡ Some call.stamp) × (writes_cell (does cells call).accesses c ≡ true)

@@ -1,3 +1,4 @@
+-- What callers cite.
 pub mod Outcomes
 pub mod Attributes
 pub mod Dirs
@@ -14,7 +15,7 @@ pub mod Posix
 pub mod Laws
 pub mod RunLaws
 pub mod Perform
-pub mod Comes
+pub mod Computes
 pub mod Intended
 pub mod Edits
 pub mod CellLaws

@@ -1,4 +1,4 @@
--- A tree that is looked at, and what was looked at.
+-- A tree that is looked at, and the looks at it.
 use Rattle.std.specs.Prelude.{◌≡◌, ℕ, Bool, true, false, List, [], ◌∷◌, length, Result, Ok, Err, refl}
 use Rattle.std.specs.Coded.{Coded, code_by, coded×, coded_list}
 use Rattle.std.specs.FinMap as finite
@@ -13,14 +13,14 @@ use Rattle.ft_posix.specs.contracts.call.Mode as mode
 use Rattle.ft_posix.specs.declared.call.Mode.TheVariants.{Read as ReadMode}
 use Rattle.ft_posix.specs.Accesses.{Modes, with_looks}
 
--- the cells that are looked at, how they are accessed so far, and of which of them it was known in
--- advance that they are read: the entries on the way of a path's front
+-- the cells that are looked at, how they are accessed so far, and the cells that are known in
+-- advance to be read: the entries on the way of a path's front
 pub record Looking : Type 0 where
   pub cells : Cells
   pub modes : Modes
   pub front : List Cell
 
--- how that is coded. Nothing a reader has to know.
+-- the code of a looking, which a reader can skip
 abbrev pub coded_looking : Coded Looking
 coded_looking =
     code_by (Cells × (Modes × List Cell)) (coded× coded_cells (coded× (finite.code cell.the_row.coded mode.the_row.coded) (coded_list cell.the_row.coded)))
@@ -30,21 +30,21 @@ coded_looking =
 abbrev pub noted_at : Looking → Cell → Looking
 noted_at old c = record { cells = old.cells; modes = finite.insert old.modes c ReadMode; front = old.front }
 
--- with what is looked at noted
+-- with all looks noted
 abbrev pub noted : {A : Type 0} → Looking → Looks A → Looking
 noted old looks = record { cells = old.cells; modes = with_looks old.modes (looked_at looks (view_of old.cells)); front = old.front }
 
--- the looks were made: this is what they answer, and they are noted. Or memory was wanting, and
--- the cells are the same.
-abbrev pub Finds : {A : Type 0} → Looking → Looks A → Looking → Result A Memory → Type 0
-Finds old looks new (Ok x) = (x ≡ answer looks (view_of old.cells)) × (new ≡ noted old looks)
-Finds old looks new (Err memory) = new.cells ≡ old.cells
+-- the result is the answer of the looks, and they are noted; or there is not enough memory, and the
+-- cells are the same
+abbrev pub Observes : {A : Type 0} → Looking → Looks A → Looking → Result A Memory → Type 0
+Observes old looks new (Ok x) = (x ≡ answer looks (view_of old.cells)) × (new ≡ noted old looks)
+Observes old looks new (Err memory) = new.cells ≡ old.cells
 
 -- one look at a cell
 abbrev pub look_at : (c : Cell) → Looks (Shows c)
 look_at c = Look c (λ x. Answer x)
 
--- the list has nothing in it
+-- the list is empty
 abbrev pub is_none_of : {A : Type 0} → List A → Bool
 is_none_of [] = true
 is_none_of (x ∷ xs) = false
@@ -57,6 +57,6 @@ is_bare d = Look (Names d) (λ names. Answer (is_none_of names))
 abbrev pub size_at : ℕ → Looks ℕ
 size_at i = Look (Bytes i) (λ contents. Answer (length contents.bytes))
 
--- that the names of a directory are looked at
+-- a look at the names of a directory, without a result
 abbrev pub names_noted : ℕ → Looks (Unit {0})
 names_noted d = Look (Names d) (λ names. Answer tt)

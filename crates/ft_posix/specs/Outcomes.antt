@@ -1,4 +1,4 @@
--- What a call comes to: a reply, and the cells that it writes with their new values.
+-- The outcome of a call: a reply, and the cells that it writes with their new values.
 -- XBD and XSH are the Base Definitions and the System Interfaces of POSIX.1-2017.
 use Rattle.std.specs.Prelude.{Bool, List, [], Option, None, Some, Result, Ok, Err}
 use Rattle.ft_path.specs.declared.path.Parts.{Parts}
@@ -7,7 +7,7 @@ use Rattle.ft_laws.specs.Effects.{Write as CellWrite}
 use Rattle.ft_cells.specs.declared.cell.Cell.{Cell}
 use Rattle.ft_tree.specs.Held.{Holds}
 use Rattle.ft_cells.specs.Looks.{Looks, Answer, then, or_else}
-use Rattle.ft_cells.specs.declared.node.Spot.{Spot}
+use Rattle.ft_cells.specs.declared.node.PathEnd.{PathEnd}
 use Rattle.ft_tree.specs.Walk.{walk}
 use Rattle.ft_posix.specs.declared.call.Reply.{Reply}
 use Rattle.ft_posix.specs.declared.call.Reply.TheVariants.{Failed}
@@ -31,24 +31,25 @@ pub record Outcome : Type 0 where
 abbrev pub failed : Errno → Outcome
 failed e = record { reply = Failed e; writes = [] }
 
--- nor does one that only tells something
+-- a call that only reports something writes nothing
 abbrev pub told : Reply → Outcome
 told reply = record { reply = reply; writes = [] }
 
--- a call on a path goes on where the path's components lead (XBD 4.13), through a last one that is
--- a symbolic link where the call follows it. The fault of its text is answered before anything is
--- looked at, and a fault of the walk where it comes; the order is a rule of this project.
-abbrev pub from_parts : Bool → Result Parts Errno → (Spot → Looks Outcome) → Looks Outcome
+-- a call on a path continues at the end of the path (XBD 4.13). If the call follows links, the walk
+-- goes through a last component that is a symbolic link. The fault of the text is returned before
+-- anything is looked at, and a fault of the walk where it occurs; the order is a rule of this
+-- project.
+abbrev pub from_parts : Bool → Result Parts Errno → (PathEnd → Looks Outcome) → Looks Outcome
 from_parts follow (Err e) go = Answer (failed e)
 from_parts follow (Ok parts) go = then (walk follow parts.names parts.trailing) (or_else failed go)
 
--- the call goes on where there is no fault
+-- the call continues if there is no fault
 abbrev pub unless : Option Errno → Looks Outcome → Looks Outcome
 unless None go = go
 unless (Some e) go = Answer (failed e)
 
--- a call on a path with arguments that may be at fault goes on where the path leads: the fault of
--- the text is answered first, then that of the arguments, both before anything is looked at
-abbrev pub from_judged : Option Errno → Bool → Result Parts Errno → (Spot → Looks Outcome) → Looks Outcome
+-- a call on a path with arguments that may be at fault continues at the end of the path: the fault
+-- of the text is returned first, then that of the arguments, both before anything is looked at
+abbrev pub from_judged : Option Errno → Bool → Result Parts Errno → (PathEnd → Looks Outcome) → Looks Outcome
 from_judged fault follow (Err e) go = Answer (failed e)
 from_judged fault follow (Ok parts) go = unless fault (from_parts follow (Ok parts) go)

@@ -1,4 +1,4 @@
--- What replies tell.
+-- The kinds of replies.
 use Rattle.std.specs.Prelude.{Bool, true, false}
 use Rattle.ft_posix.specs.declared.call.Call.{Call}
 use Rattle.ft_posix.specs.declared.call.Call.TheVariants.{Mkdir, Rmdir, List as ListDir, Open, Close, Read, Write, Pread, Pwrite, Lseek, Truncate, Ftruncate, Stat, Fstat, Link, Unlink, Rename, Symlink, Readlink, Lstat, Chmod, Fchmod, Chown, Lchown, Fchown, Utime, Lutime, Futime}
@@ -14,7 +14,7 @@ IsList (BytesReply bytes) = Unit {0}
 IsList (Info kind number links size attributes time) = ⊥
 IsList (Failed e) = ⊥
 
--- the reply only tells: names, what was found, or an error. It comes with no change.
+-- the reply only reports something: names, what was found, or an error. It comes with no change.
 abbrev pub OnlyTells : Reply → Type 0
 OnlyTells Done = ⊥
 OnlyTells (NamesReply names) = Unit {0}
@@ -23,8 +23,8 @@ OnlyTells (BytesReply bytes) = ⊥
 OnlyTells (Info kind number links size attributes time) = Unit {0}
 OnlyTells (Failed e) = Unit {0}
 
--- the call is a read, which alone moves its descriptor's offset and answers a list; every other
--- call that answers bytes or names changes nothing
+-- the call is a read: only a read moves its descriptor's offset and returns a list; every other
+-- call that returns bytes or names changes nothing
 abbrev pub is_read : Call → Bool
 is_read (Mkdir path mode) = false
 is_read (Rmdir path) = false

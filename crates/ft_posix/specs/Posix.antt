@@ -1,7 +1,6 @@
--- The calls on a tree, seen as calls in the abstract: what ft_laws asks of calls is shown of
--- these.
--- They meet it (`Lawful posix_calls`), so what ft_laws proves of runs holds of them, exchange and
--- deletion first.
+-- The calls on a tree, as calls in the abstract.
+-- They meet the laws of ft_laws (`Lawful posix_calls`), so its theorems on runs hold of them,
+-- exchange and deletion first.
 use Rattle.std.specs.Prelude.{ℕ, Bool, false, ◌==◌, map, Option, Some, None}
 use Rattle.ft_laws.specs.Calls.{Calls}
 use Rattle.ft_laws.specs.Effects.{Access as PlaceAccess, Effect, Effects, calls_of}
@@ -23,8 +22,8 @@ use Rattle.ft_posix.specs.declared.call.Access.{Access}
 use Rattle.ft_posix.specs.Stored.{outcome}
 use Rattle.ft_posix.specs.Accesses.{is_write, accesses_of}
 
--- an access to the names of a directory is one to each of its entries, and any other one to its
--- cell (a rule of this project)
+-- an access to the names of a directory covers each of its entries, and any other access its cell
+-- (a rule of this project)
 abbrev pub covers : Cell → Cell → Bool
 covers (Names d) (Entry entry) = d == entry.dir
 covers x y = same_cell x y
@@ -34,18 +33,18 @@ pub record Stamped : Type 0 where
   pub stamp : ℕ
   pub call : Call
 
--- an access, in the words of ft_laws
+-- an access, in the terms of ft_laws
 abbrev pub as_place : Access → PlaceAccess Cell
 as_place a = record { place = a.cell; writes = is_write a.mode }
 
--- the values are those of some sound cells, whatever the places: what ft_laws asks of a store is
--- asked of values alone
+-- the values are those of some sound cells, whatever the places: what ft_laws requires of a store
+-- concerns only values
 pub record HasSoundValues (cells : Cells) : Type 0 where
   pub with_places : Cells
   pub sound : AreSoundCells with_places
   pub same : SameValues with_places cells
 
--- the file to which a cell belongs: its links, its bytes and its attributes do
+-- the file to which a cell belongs: its links, its bytes and its attributes belong to it
 abbrev pub file_of : Cell → Option ℕ
 file_of (Entry entry) = None
 file_of (Names d) = None
@@ -79,7 +78,7 @@ names_file (Fd f) to i = description_names to i
 names_file (DirAttributes d) to i = false
 names_file (FileAttributes j) to i = false
 
--- what a call does, in the words of ft_laws: its accesses, its writes and its reply
+-- the effect of a call, in the terms of ft_laws: its accesses, its writes and its reply
 abbrev pub does : Cells → Stamped → Effect Cell Cell Holds Reply
 does cells a = let o = outcome cells a.stamp a.call in record {
   accesses = map as_place (accesses_of cells a.stamp a.call);
@@ -87,8 +86,8 @@ does cells a = let o = outcome cells a.stamp a.call in record {
   reply = o.reply;
 }
 
--- the twenty-eight calls: cells, accesses, effects, soundness, freshness, files. A file that a call
--- makes has its stamp for a number.
+-- the twenty-eight calls: cells, accesses, effects, soundness, freshness, files. The stamp of a
+-- call numbers the file that it makes.
 abbrev pub posix : Effects
 posix = record {
   Store = Cells;
@@ -113,10 +112,10 @@ posix = record {
   own = λ a. a.stamp;
 }
 
--- what a tree allows, which no call changes
+-- the limits of a tree, which no call changes
 abbrev pub limits_of : Cells → TreeLimits
 limits_of cells = cells.limits
 
--- the calls that these effects make; each depends on what its tree allows, as on a cell
+-- the calls of these effects; each depends on the limits of its tree, as on a cell
 abbrev pub posix_calls : Calls
 posix_calls = settled (calls_of posix) TreeLimits limits_of default_limits

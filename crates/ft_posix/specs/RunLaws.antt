@@ -1,4 +1,4 @@
--- Laws that join runs on stored cells to the plain tree.
+-- Laws that relate runs on stored cells to the plain tree.
 use Rattle.std.specs.Prelude.{◌≡◌, ◌≢◌, ℕ, Bool, true, false, ◌&&◌, List, [], ◌∷◌, Some}
 use Rattle.std.specs.FinMap as finite
 use Rattle.ft_laws.specs.Lists.{Each, Pairs, any}
@@ -25,11 +25,11 @@ use Rattle.ft_posix.specs.Steps.{steps}
 abbrev pub accesses_in : PlainTree → ℕ → Call → List Access
 accesses_in p stamp call = listed (with_accesses finite.empty (steps p.limits (finite.len p.dirs) stamp call) (view_in p))
 
--- they are those on the sound cells that the tree is
+-- these accesses are the accesses on the sound cells of that tree
 abbrev pub PlainAccessesLaw : Type 0
 PlainAccessesLaw = (cells : Cells) (stamp : ℕ) (call : Call) → AreSoundCells cells → accesses_in (tidy cells) stamp call ≡ accesses_of cells stamp call
 
--- what is hidden of files that nothing names, the plain tree has not
+-- hiding files that nothing names does not change the plain tree
 abbrev pub HidingLaw : Type 0
 HidingLaw = (hidden : ℕ → Bool) (old new : Cells) → AreSoundCells old → AreSoundCells new → Hides posix_calls hidden old new → tidy new ≡ tidy old
 
@@ -42,19 +42,19 @@ abbrev pub tree_after : PlainTree → DoneCalls → PlainTree
 tree_after p [] = p
 tree_after p (done ∷ more) = tree_after (exec p done.call.stamp done.call.call).0 more
 
--- on a plain tree the calls give their replies
+-- on a plain tree the calls have their replies
 abbrev pub GiveReplies : PlainTree → DoneCalls → Type 0
 GiveReplies p [] = Unit {0}
 GiveReplies p (done ∷ more) = ((exec p done.call.stamp done.call.call).1 ≡ done.reply) × GiveReplies (exec p done.call.stamp done.call.call).0 more
 
--- a run on the cells is one on the plain tree that they are
+-- a run on the cells is a run on their plain tree
 pub record RunsPlainly (cells : Cells) (calls : DoneCalls) : Type 0 where
   pub sound : AreSoundCells (run posix_calls cells calls)
   pub plain : tidy (run posix_calls cells calls) ≡ tree_after (tidy cells) calls
   pub replies : GiveReplies (tidy cells) calls
 
--- so is each from sound cells, in which the calls get the replies that they got, and whose stamps
--- are distinct and number nothing
+-- a run from sound cells is a run on their plain tree, if the calls have their replies in it, and
+-- their stamps are distinct and number nothing
 abbrev pub RunLaw : Type 0
 RunLaw = (cells : Cells) (calls : DoneCalls) → AreSoundCells cells → Each (λ done. IsFree cells done.call.stamp) calls → Pairs (λ a b. a.call.stamp ≢ b.call.stamp) calls → Faithful posix_calls cells calls → RunsPlainly cells calls
 

@@ -1,4 +1,4 @@
--- What each call looks at and what it comes to.
+-- The looks and the outcome of each call.
 use Rattle.std.specs.Prelude.{ℕ, true, false, Some}
 use Rattle.ft_path.specs.FilePath.{parts_of}
 use Rattle.ft_cells.specs.Looks.{Looks}
@@ -13,11 +13,11 @@ use Rattle.ft_posix.specs.Symlinks.{symlink_parts, read_link}
 use Rattle.ft_posix.specs.Files.{open_parts, truncate_parts, stat_spot}
 use Rattle.ft_posix.specs.Descriptors.{with_open, any_open, is_readable, is_writable, close_open, read_open, write_open, pread_open, pwrite_open, seek_open, ftruncate_open, fstat_open}
 
--- the call with this stamp, on a tree with these limits and of so many directories: no way up to
--- its root is longer.
--- Only the climb of a rename asks for their number, since a definition has to end; on a sound
--- tree any that is no less gives the same. A stamp would be no bound: a call that is made again
--- in another order meets trees with larger numbers.
+-- the call with this stamp, on a tree with these limits and so many directories: no way up to its
+-- root is longer.
+-- Only the climb of a rename uses this number, since a definition has to end. On a sound tree any
+-- larger number gives the same. A stamp would be no bound: a call that is made again in another
+-- order meets trees with larger numbers.
 abbrev pub steps : TreeLimits → ℕ → ℕ → Call → Looks Outcome
 steps limits most stamp (Mkdir path mode) = from_judged (mode_fault mode) false (parts_of path) (make_dir stamp mode)
 steps limits most stamp (Rmdir path) = remove_parts (parts_of path)

@@ -1,10 +1,10 @@
--- Edits that keep files within what a file can have.
+-- Edits that keep files within the largest size.
 use Rattle.std.specs.Prelude.{◌≤◌, List, [], ◌∷◌}
 use Rattle.ft_body.specs.declared.TheConstants.{LARGEST_SIZE}
 use Rattle.ft_posix.specs.declared.intent.Edit.{Edit}
 use Rattle.ft_posix.specs.declared.intent.Edit.TheVariants.{Entry, Parent, Links, Overwrite, Resize, Open, DirAttributes, FileAttributes, Time}
 
--- bytes and sizes that are edited are within it
+-- the edited offsets and sizes are within the largest size
 abbrev pub IsWithin : Edit → Type 0
 IsWithin (Entry entry to) = Unit {0}
 IsWithin (Parent d to) = Unit {0}
@@ -16,7 +16,7 @@ IsWithin (DirAttributes d to) = Unit {0}
 IsWithin (FileAttributes i to) = Unit {0}
 IsWithin (Time i to) = Unit {0}
 
--- those of all edits are
+-- all edits are within it
 abbrev pub AreWithin : List Edit → Type 0
 AreWithin [] = Unit {0}
 AreWithin (e ∷ es) = IsWithin e × AreWithin es

@@ -6,7 +6,8 @@ use ft_base::{Memory, Sequence};
 use std::alloc::Global;
 
 impl Call {
-    /// Another call like it. Refuses want of memory, which only paths and bytes can meet.
+    /// Returns an equal call. Out of memory is the only refusal, and only paths and bytes take
+    /// memory.
     pub fn copy(&self, alloc: Global) -> Result<Call, Memory>
         ensures { IfOk result (λ copy. copy ≡ self.now) }
     {
@@ -128,7 +129,7 @@ impl Call {
     }
 }
 
-/// Other bytes like these.
+/// Returns equal bytes.
 fn copy_bytes(alloc: Global, bytes: &Sequence<u8>) -> Result<Sequence<u8>, Memory>
     ensures { IfOk result (λ copy. copy ≡ bytes.now) }
 {

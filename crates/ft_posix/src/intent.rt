@@ -1,51 +1,51 @@
-// What a call comes to, before it is made.
+// The intent of a call: its reply and its edits, before it is made.
 ghost use Rattle.std.specs.Prelude.{◌≡◌, [], ◌∷◌, ◌++◌, length, slice_get, option_copied, OnOk, OnErr, IfOk};
 ghost use Rattle.ft_body.specs.Bytes.{bytes_at};
 ghost use Rattle.ft_cells.specs.Cells.{bytes_of};
 ghost use Rattle.ft_posix.specs.Within.{IsWithin, AreWithin};
 
 use crate::call::Reply;
-use ft_base::{Few, Memory};
+use ft_base::{Memory, ShortList};
 use ft_path::Errno;
 use ft_tree::{Attributes, Entry, HintedFile, Kind, Node, OpenFile, Rare, Timestamp, Tree};
 use std::alloc::Global;
 use std::marker::Model;
 
-/// Why a call comes to no intent.
+/// The reason that a call has no intent.
 #[derive(Clone, Copy)]
-pub enum Stop {
-    /// There was no memory.
+pub enum CallError {
+    /// There was not enough memory.
     Memory,
     /// The call fails, with this error.
     Errno(Errno),
 }
 
-impl From<Memory> for Stop {
+impl From<Memory> for CallError {
     ghost use Rattle.std.specs.Prelude.{◌≡◌};
-    ghost use Rattle.ft_posix.specs.declared.intent.Stop.TheVariants.{Memory};
+    ghost use Rattle.ft_posix.specs.declared.intent.CallError.TheVariants.{Memory};
 
     ghost from_gives = { λ _ stop. stop ≡ Memory };
 
-    fn from(_memory: Memory) -> Stop {
-        Stop::Memory
+    fn from(_memory: Memory) -> CallError {
+        CallError::Memory
     }
 }
 
-impl From<Errno> for Stop {
+impl From<Errno> for CallError {
     ghost use Rattle.std.specs.Prelude.{◌≡◌};
-    ghost use Rattle.ft_posix.specs.declared.intent.Stop.TheVariants.{Errno as Fails};
+    ghost use Rattle.ft_posix.specs.declared.intent.CallError.TheVariants.{Errno as Fails};
 
     ghost from_gives = { λ errno stop. stop ≡ Fails errno };
 
-    fn from(errno: Errno) -> Stop {
-        Stop::Errno(errno)
+    fn from(errno: Errno) -> CallError {
+        CallError::Errno(errno)
     }
 }
 
-/// One cell that is to get a new value. Bytes to be written are borrowed from the call.
+/// A cell that is to get a new value. Bytes to be written are borrowed from the call.
 #[derive(Drop)]
 pub enum Edit<'c> {
-    /// What an entry leads to.
+    /// The node that an entry leads to.
     Entry {
         entry: Entry,
         to: Option<Node>,
@@ -60,13 +60,13 @@ pub enum Edit<'c> {
         file: u64,
         to: u64,
     },
-    /// Bytes of a file, those that have room from an offset on; its time goes.
+    /// Bytes of a file from an offset on, as many as have room. The file loses its time.
     Overwrite {
         file: HintedFile,
         at: u64,
         bytes: &'c [u8],
     },
-    /// The size of a file; its time goes.
+    /// The size of a file. The file loses its time.
     Resize {
         file: HintedFile,
         size: u64,
@@ -76,12 +76,12 @@ pub enum Edit<'c> {
         fd: u64,
         to: Option<OpenFile>,
     },
-    /// What is kept of a directory's attributes.
+    /// The stored attributes of a directory.
     DirAttributes {
         dir: u64,
         to: Rare<Attributes>,
     },
-    /// What is kept of a file's attributes.
+    /// The stored attributes of a file.
     FileAttributes {
         file: HintedFile,
         to: Rare<Attributes>,
@@ -96,7 +96,7 @@ pub enum Edit<'c> {
 /// The edits of a call.
 #[derive(Drop)]
 pub struct Edits<'c> {
-    items: Few<Edit<'c>>,
+    items: ShortList<Edit<'c>>,
 }
 
 impl<'c> Model for Edits<'c> {
@@ -113,24 +113,24 @@ impl<'c> Model for Edits<'c> {
 }
 
 impl<'c> Edits<'c> {
-    /// No edits. Takes no memory.
+    /// Returns an empty list of edits. Takes no memory.
     pub fn new(alloc: Global) -> Edits<'c>
         ensures { result ≡ [] }
     {
         Edits {
-            items: Few::new(alloc),
+            items: ShortList::new(alloc),
         }
     }
 
-    /// The edits, in order.
-    pub fn as_items(&self) -> &Few<Edit<'c>>
+    /// Returns the edits, in order.
+    pub fn as_items(&self) -> &ShortList<Edit<'c>>
         ensures items { result.now ≡ self.now }
         ensures within { AreWithin self.now }
     {
         &self.items
     }
 
-    /// How many there are.
+    /// Returns the number of edits.
     pub fn len(&self) -> usize
         ensures { result ≡ length self.now }
     {
@@ -140,21 +140,21 @@ impl<'c> Edits<'c> {
         if self.items.second().is_none() {
             return 1;
         }
-        2 + self.items.others().len()
+        2 + self.items.rest().len()
     }
 
-    /// The edit at an index, if there is one.
+    /// Returns the edit at an index, if there is one.
     pub fn get(&self, index: usize) -> Option<&Edit<'c>>
         ensures { option_copied result ≡ slice_get self.now index }
     {
         match index {
             0 => self.items.first(),
             1 => self.items.second(),
-            _ => self.items.others().get(index - 2),
+            _ => self.items.rest().get(index - 2),
         }
     }
 
-    /// Puts one more behind the others; the first two take no memory.
+    /// Adds an edit at the end. The first two edits take no memory.
     pub fn push(&mut self, edit: Edit<'c>) -> Result<(), Memory>
         requires { IsWithin edit }
         ensures { OnOk result (self.new ≡ self.old ++ edit.entry ∷ []) }
@@ -164,14 +164,14 @@ impl<'c> Edits<'c> {
     }
 }
 
-/// What a call answers when it is made. A list is told only by where it is.
+/// The reply of a call before it is made. A list is given only by its place in the tree.
 #[derive(Debug, Drop)]
-pub enum Told {
-    /// What was asked is done.
+pub enum PlannedReply {
+    /// The call is to be made, and there is nothing to report.
     Done,
     /// A descriptor, an offset, or how many bytes are written.
     Number(u64),
-    /// What a path leads to or a descriptor has open.
+    /// The `Info` about what a path leads to or a descriptor has open.
     Info {
         kind: Kind,
         number: u64,
@@ -192,20 +192,20 @@ pub enum Told {
     },
 }
 
-/// What a call comes to, before it is made: its answer, and the cells that it is to set.
+/// The intent of a call: its reply, and the edits that are to be made.
 #[derive(Drop)]
 pub struct Intent<'c> {
-    pub told: Told,
+    pub told: PlannedReply,
     pub edits: Edits<'c>,
 }
 
 impl<'c> Intent<'c> {
     ghost use Rattle.std.specs.Prelude.{◌≡◌, IfOk, OnErr};
-    ghost use Rattle.ft_posix.specs.Comes.{reply_of};
+    ghost use Rattle.ft_posix.specs.Computes.{reply_of};
     ghost use Rattle.ft_posix.specs.Perform.{IsList};
 
-    /// The reply of the call. A list is read off the tree, which is as it was looked at. Only a
-    /// list takes memory, and want of it is the one refusal.
+    /// Returns the reply of the call. A list is read from the tree, which must be as it was looked
+    /// at. Only a list takes memory, and out of memory is the only refusal.
     pub fn reply(&self, alloc: Global, tree: &Tree) -> Result<Reply, Memory>
         ensures reply { IfOk result (λ reply. reply ≡ reply_of tree.now self.now.told) }
         ensures lists { OnErr result (IsList (reply_of tree.now self.now.told)) }
@@ -214,21 +214,21 @@ impl<'c> Intent<'c> {
     }
 }
 
-impl Told {
+impl PlannedReply {
     ghost use Rattle.std.specs.Prelude.{◌≡◌, IfOk, OnErr};
-    ghost use Rattle.ft_posix.specs.Comes.{reply_of};
+    ghost use Rattle.ft_posix.specs.Computes.{reply_of};
     ghost use Rattle.ft_posix.specs.Perform.{IsList};
 
-    /// The reply that it stands for. A list is read off the tree, which is as it was looked at. Only
-    /// a list takes memory, and want of it is the one refusal.
+    /// Returns the planned reply in full. A list is read from the tree, which must be as it was
+    /// looked at. Only a list takes memory, and out of memory is the only refusal.
     pub fn reply(&self, alloc: Global, tree: &Tree) -> Result<Reply, Memory>
         ensures reply { IfOk result (λ reply. reply ≡ reply_of tree.now self.now) }
         ensures lists { OnErr result (IsList (reply_of tree.now self.now)) }
     {
         match self {
-            Told::Done => Ok(Reply::Done),
-            Told::Number(number) => Ok(Reply::Number(*number)),
-            Told::Info {
+            PlannedReply::Done => Ok(Reply::Done),
+            PlannedReply::Number(number) => Ok(Reply::Number(*number)),
+            PlannedReply::Info {
                 kind,
                 number,
                 links,
@@ -243,9 +243,9 @@ impl Told {
                 attributes: *attributes,
                 time: *time,
             }),
-            Told::Failed(errno) => Ok(Reply::Failed(*errno)),
-            Told::NamesOf(dir) => Ok(Reply::Names(tree.names(*dir)?.into())),
-            Told::BytesOf { file, at, len } => {
+            PlannedReply::Failed(errno) => Ok(Reply::Failed(*errno)),
+            PlannedReply::NamesOf(dir) => Ok(Reply::Names(tree.names(*dir)?.into())),
+            PlannedReply::BytesOf { file, at, len } => {
                 let bytes = read_bytes(alloc, tree, file, *at, *len)?;
                 Ok(Reply::Bytes(bytes.into()))
             }
@@ -253,7 +253,7 @@ impl Told {
     }
 }
 
-/// The bytes of a file from an offset on, at most `count`.
+/// Returns the bytes of a file from an offset on, at most `count`.
 fn read_bytes(
     alloc: Global,
     tree: &Tree,
@@ -261,7 +261,8 @@ fn read_bytes(
     offset: u64,
     count: u64,
 ) -> Result<Vec<u8>, Memory>
-    ensures { IfOk result (λ read. read.items ≡ bytes_at (bytes_of tree.now file.now) offset count) }
+    ensures { IfOk result (λ read. read.items
+        ≡ bytes_at (bytes_of tree.now file.now) offset count) }
 {
     match tree.hinted_body(file) {
         Some(body) => body.read_at(offset, count),

@@ -1,4 +1,4 @@
-// Laws of the calls: each is the contract of a function that does nothing.
+// Laws of the calls. Each is the contract of a function that does nothing.
 ghost use Rattle.ft_laws.specs.Laws.{Lawful};
 ghost use Rattle.ft_laws.specs.Runs.{Exchange, Deletion};
 ghost use Rattle.ft_posix.specs.Laws.{SoundnessLaw, FreshnessLaw, TidyingLaw, ValuesLaw, PlainSoundnessLaw, FrameLaw, KeptLaw, ExchangeLaw, TellingLaw};
@@ -8,142 +8,147 @@ ghost use Rattle.ft_posix.specs.CellLaws.{SettingLaw, RestoringLaw};
 ghost use Rattle.ft_posix.specs.Leaving.{LeavingLaw, UselessLaw, MakingLaw};
 ghost use Rattle.ft_posix.specs.Posix.{posix_calls};
 
-/// A call whose stamp numbers nothing leaves sound cells sound.
+/// States that a call whose stamp numbers nothing leaves sound cells sound.
 pub fn soundness()
     ensures { SoundnessLaw }
 {}
 
-/// A call leaves each number free that was free, but its own stamp.
+/// States that a call on sound cells leaves each free number free, except its own stamp.
 pub fn freshness()
     ensures { FreshnessLaw }
 {}
 
-/// The tidying law: on sound cells, and with a stamp that numbers nothing, tidying after a call and
-/// the call after tidying give the same plain tree and the same reply.
+/// States the tidying law. On sound cells, and with a stamp that numbers nothing, a call may be
+/// made before or after tidying. Both give the same plain tree and the same reply.
 pub fn tidying()
     ensures { TidyingLaw }
 {}
 
-/// Only the values of the cells count, and not which empty places there are: cells that have the
-/// values of sound ones, and their places, are sound, are the same plain tree, and leave as many
-/// numbers free.
+/// States that only the values of the cells count, and not their empty places. Cells that have the
+/// values and the places of sound cells are sound. They are the same plain tree, and the free
+/// numbers stay free.
 pub fn values()
     ensures { ValuesLaw }
 {}
 
-/// Sound cells are a plain tree that is sound: each edge starts in a directory and leads to a
-/// directory or a file, each directory but the root has exactly one edge, none is below itself, and
-/// each description names a file.
+/// States that sound cells are a sound plain tree. Each edge starts in a directory and leads to a
+/// directory or a file. Each directory except the root has exactly one edge, and none is below
+/// itself. Each description names a file.
 pub fn plain_soundness()
     ensures { PlainSoundnessLaw }
 {}
 
-/// The frame law: where a call accesses them, sound cells that show the same give it the same
-/// accesses, the same reply and the same writes.
+/// States the frame law. If sound cells have the same limits, and show the same in each cell that a
+/// call accesses, the call does the same in both. It has the same accesses, reply and writes.
 pub fn frame()
     ensures { FrameLaw }
 {}
 
-/// Nothing but the cells that a call writes changes.
+/// States that only the cells that a call writes change.
 pub fn others_kept()
     ensures { KeptLaw }
 {}
 
-/// The calls are lawful, as `ft_laws` asks: what it proves of runs of calls holds of these. Among
-/// the laws are two of files. A call touches what is stored of a file only where it made
-/// the file, or an entry or a description that it accesses names it. And a call that takes an entry
-/// or a description of a file away touches the file, or leaves the name in another cell that it
-/// writes, as a rename does.
+/// States that the calls are lawful, as `ft_laws` requires, so its theorems on runs of calls hold
+/// of them.
+///
+/// Among the laws are two on files. A call touches what is stored of a file only if it made the
+/// file, or an entry or a description that it accesses names the file. A call that removes an entry
+/// or a description of a file touches the file, or leaves its name in another cell that it writes,
+/// as a rename does.
 pub fn lawful()
     ensures { Lawful posix_calls }
 {}
 
-/// The exchange law: two neighbouring calls without conflicting accesses have the same replies in
-/// either order, and leave cells of the same values.
+/// States the exchange law. Two neighbouring calls without conflicting accesses have the same
+/// replies in either order, and leave cells of the same values.
 pub fn exchange()
     ensures two { ExchangeLaw }
     ensures in_runs { Exchange posix_calls }
 {}
 
-/// The deletion law: a call that conflicts with no later one of a list can be left out. Every other
-/// call has the same reply, and only the cells that it wrote differ: they have their values from
-/// before it.
+/// States the deletion law. A call that conflicts with no later one of a list can be left out.
+/// Every other call has the same reply. Only the cells that the call wrote differ: they have their
+/// values from before it.
 pub fn deletion()
     ensures { Deletion posix_calls }
 {}
 
-/// On sound cells, what a call writes are different cells, each of which has its place or can make
-/// it.
+/// States that on sound cells a call writes different cells, each of which has its place or can
+/// make it.
 pub fn places()
     ensures { PlacesLaw }
 {}
 
-/// A call whose reply only tells writes nothing.
+/// States that on sound cells a call whose reply only reports something writes nothing.
 pub fn telling()
     ensures { TellingLaw }
 {}
 
-/// Edits of different cells do not come in each other's way.
+/// States that edits of different cells do not affect each other.
 pub fn editing()
     ensures { EditingLaw }
 {}
 
-/// To set a cell sets it and no other, and every place stays.
+/// States that setting a cell changes no other cell and keeps every place.
 pub fn setting()
     ensures { SettingLaw }
 {}
 
-/// A cell that was set gives the cells back as they were.
+/// States that the earlier cells can be restored after a cell was set.
 pub fn restoring()
     ensures { RestoringLaw }
 {}
 
-/// The accesses of a call on the plain tree are those on the sound cells that the tree is.
+/// States that a call on the plain tree has the accesses that it has on the sound cells of that
+/// tree.
 pub fn plain_accesses()
     ensures { PlainAccessesLaw }
 {}
 
-/// Files that nothing names may be hidden: their cells hold nothing then, and the plain tree is the
-/// same.
+/// States that files that nothing names may be hidden. Their cells then hold nothing, and the plain
+/// tree is the same.
 pub fn hiding()
     ensures { HidingLaw }
 {}
 
-/// Calls that run from sound cells with the replies that they got leave sound cells, and run on the
-/// plain tree alike: each gives its reply, and the tree after them is that of the cells. Their
-/// stamps are distinct and number nothing before.
+/// States that calls that run from sound cells with their replies leave sound cells, and run alike
+/// on the plain tree. Each gives its reply there, and the tree after them is that of the cells. The
+/// stamps of the calls are distinct and number nothing before.
 pub fn runs()
     ensures { RunLaw }
 {}
 
-/// Cells of sound values are sound where the root is stored, and the file of each description.
+/// States that cells of sound values are sound if the root and the file of each description are
+/// stored.
 pub fn placed()
     ensures { PlacedLaw }
 {}
 
-/// Each cell that a call writes is among its accesses, for writing.
+/// States that each cell that a call writes is among its accesses, for writing.
 pub fn writes()
     ensures { WritesLaw }
 {}
 
-/// No entry and no description names a file that is not there.
+/// States that on sound cells no entry and no description names a file that is not there.
 pub fn nameless()
     ensures { NamelessLaw }
 {}
 
-/// What is of no use after writes was so before, or they write a cell of its place, or it is of a
-/// file that was open.
+/// States that a cell that is useless after writes was useless before, or the writes set a cell of
+/// its place, or it belongs to a file that was open.
 pub fn leaving()
     ensures { LeavingLaw }
 {}
 
-/// A call that leaves an empty place, or a file or a directory that is not there any more, accesses
-/// a cell of its place, or it was so before the call.
+/// States that a cell that is useless after a call on sound cells was useless before, or the call
+/// accesses a cell of its place. A useless cell has an empty place, or belongs to a file or a
+/// directory that is not there any more.
 pub fn useless()
     ensures { UselessLaw }
 {}
 
-/// A call that leaves the name of the file that it makes writes a cell of this file.
+/// States that a call that leaves the name of the file that it makes writes a cell of this file.
 pub fn making()
     ensures { MakingLaw }
 {}

@@ -5,8 +5,8 @@ use crate::call::Call;
 use ft_base::Memory;
 use std::alloc::Global;
 
-/// A granted call with its stamp, which is its place in the order of the grants, and the number of
-/// what it makes.
+/// A granted call with its stamp. The stamp is its place in the order of the grants, and the number
+/// of whatever it makes.
 #[derive(Debug, PartialEq, Eq, Drop)]
 pub struct StampedCall {
     pub stamp: u64,
@@ -14,7 +14,7 @@ pub struct StampedCall {
 }
 
 impl StampedCall {
-    /// Another one like it. Refuses want of memory.
+    /// Returns an equal stamped call. Out of memory is the only refusal.
     pub fn copy(&self, alloc: Global) -> Result<StampedCall, Memory>
         ensures { IfOk result (λ copy. copy ≡ self.now) }
     {

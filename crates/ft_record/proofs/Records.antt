@@ -24,7 +24,7 @@ use Rattle.ft_core.specs.declared.request.Request.TheVariants as request
 use Rattle.ft_core.specs.declared.request.FullOutcome.{FullOutcome}
 use Rattle.ft_core.specs.declared.request.FullOutcome.TheVariants as full
 use Rattle.ft_core.specs.FullOutcomes.{IsToldInFull, full_answer}
-use Rattle.ft_moss.specs.declared.rule.Rule.{Rule}
+use Rattle.ft_lock_rules.specs.declared.rule.Rule.{Rule}
 use Rattle.ft_core.specs.declared.request.Answer.{Answer}
 use Rattle.ft_core.specs.declared.request.Answer.TheVariants.{Txn, Granted, Waits, Dropped, Committed, Aborted, Undone, Cleared, Refused}
 use Rattle.ft_core.specs.Histories.{as_happening, told, granted}

@@ -1,4 +1,6 @@
+-- What callers cite.
 pub mod Recording
 pub mod Recent
-pub mod Recorded
 pub mod Going
+-- What the crate keeps true of itself.
+pub mod Recorded

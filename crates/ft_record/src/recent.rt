@@ -103,7 +103,8 @@ impl Recent {
 
     /// Begins a top-level transaction, as `Core::begin` does.
     pub fn begin(&mut self) -> Result<TxnId, Fault>
-        ensures step { IsStep exact_rule self.old.core.state Begin (answer_with Txn result) self.new.core.state }
+        ensures step { IsStep exact_rule self.old.core.state Begin (answer_with Txn result)
+            self.new.core.state }
         ensures forgotten { self.new.forgotten ≡ self.old.forgotten }
     {
         self.core.may_begin()?;
@@ -115,7 +116,8 @@ impl Recent {
 
     /// Begins a subtransaction, as `Core::sub` does.
     pub fn sub(&mut self, txn: TxnId) -> Result<TxnId, Fault>
-        ensures step { IsStep exact_rule self.old.core.state (Sub txn) (answer_with Txn result) self.new.core.state }
+        ensures step { IsStep exact_rule self.old.core.state (Sub txn) (answer_with Txn result)
+            self.new.core.state }
         ensures forgotten { self.new.forgotten ≡ self.old.forgotten }
     {
         self.core.may_sub(txn)?;
@@ -129,7 +131,8 @@ impl Recent {
     /// Makes a call in a transaction, or returns which transactions it waits for, as `Core::ask`
     /// does.
     pub fn ask(&mut self, txn: TxnId, call: Call) -> Result<Outcome, Fault>
-        ensures step { IsStep exact_rule self.old.core.state (Ask txn call) (answer_with outcome_answer result) self.new.core.state }
+        ensures step { IsStep exact_rule self.old.core.state (Ask txn call)
+            (answer_with outcome_answer result) self.new.core.state }
         ensures forgotten { self.new.forgotten ≡ self.old.forgotten }
     {
         self.core.may_ask(txn)?;
@@ -140,7 +143,8 @@ impl Recent {
 
     /// Makes a copy of a call, as `ask` makes the call.
     pub fn ask_copy(&mut self, txn: TxnId, call: &Call) -> Result<Outcome, Fault>
-        ensures step { IsStep exact_rule self.old.core.state (Ask txn call.now) (answer_with outcome_answer result) self.new.core.state }
+        ensures step { IsStep exact_rule self.old.core.state (Ask txn call.now)
+            (answer_with outcome_answer result) self.new.core.state }
         ensures forgotten { self.new.forgotten ≡ self.old.forgotten }
     {
         self.core.may_ask(txn)?;
@@ -151,7 +155,8 @@ impl Recent {
     /// Makes the call that a transaction waits for, or returns again which transactions it waits
     /// for, as `Core::retry` does.
     pub fn retry(&mut self, txn: TxnId) -> Result<Outcome, Fault>
-        ensures step { IsStep exact_rule self.old.core.state (Retry txn) (answer_with outcome_answer result) self.new.core.state }
+        ensures step { IsStep exact_rule self.old.core.state (Retry txn)
+            (answer_with outcome_answer result) self.new.core.state }
         ensures forgotten { self.new.forgotten ≡ self.old.forgotten }
     {
         self.core.may_retry(txn)?;
@@ -162,7 +167,9 @@ impl Recent {
 
     /// Forgets the call that a transaction waits for, as `Core::drop_ask` does.
     pub fn drop_ask(&mut self, txn: TxnId) -> Result<(), Fault>
-        ensures step { IsStep exact_rule self.old.core.state (DropAsk txn) (answer_with (λ done. Dropped) result) self.new.core.state }
+        ensures step { IsStep exact_rule
+            self.old.core.state (DropAsk txn) (answer_with (λ done. Dropped) result)
+            self.new.core.state }
         ensures forgotten { self.new.forgotten ≡ self.old.forgotten }
     {
         self.core.drop_ask(txn)
@@ -170,7 +177,9 @@ impl Recent {
 
     /// Commits a transaction, as `Core::commit` does.
     pub fn commit(&mut self, txn: TxnId) -> Result<(), Fault>
-        ensures step { IsStep exact_rule self.old.core.state (Commit txn) (answer_with (λ done. Committed) result) self.new.core.state }
+        ensures step { IsStep exact_rule
+            self.old.core.state (Commit txn) (answer_with (λ done. Committed) result)
+            self.new.core.state }
         ensures forgotten { self.new.forgotten ≡ self.old.forgotten }
     {
         let freed = self.freed_by_commit(txn);
@@ -193,11 +202,14 @@ impl Recent {
 
     /// Aborts a transaction with all that is live below it, as `Core::abort` does.
     pub fn abort(&mut self, txn: TxnId) -> Result<u64, Fault>
-        ensures step { IsStep exact_rule self.old.core.state (Abort txn) (answer_with Aborted result) self.new.core.state }
+        ensures step { IsStep exact_rule self.old.core.state (Abort txn)
+            (answer_with Aborted result) self.new.core.state }
         ensures forgotten { self.new.forgotten ≡ self.old.forgotten }
 
         // If it ran alone, the tree is that of its begin.
-        ensures alone { (before : StateOf) → RanAlone before self.old.core.state txn → (result ≡ Ok (count_standing self.old.core.state txn)) × (tree_of self.new.core.state ≡ tree_of before) }
+        ensures alone { (before : StateOf) → RanAlone before self.old.core.state txn
+            → (result ≡ Ok (count_standing self.old.core.state txn))
+            × (tree_of self.new.core.state ≡ tree_of before) }
     {
         let FullAbort {
             transactions,
@@ -212,11 +224,13 @@ impl Recent {
 
     /// Undoes the last of a transaction's own standing calls, as `Core::undo_call` does.
     pub fn undo_call(&mut self, txn: TxnId) -> Result<u64, Fault>
-        ensures step { IsStep exact_rule self.old.core.state (Undo txn) (answer_with Undone result) self.new.core.state }
+        ensures step { IsStep exact_rule self.old.core.state (Undo txn) (answer_with Undone result)
+            self.new.core.state }
         ensures forgotten { self.new.forgotten ≡ self.old.forgotten }
 
         // The call just made is undone, and the tree is the one before it.
-        ensures just_made { (before : StateOf) (k : ℕ) → IsJustMade before self.old.core.state txn k → (result ≡ Ok k) × (tree_of self.new.core.state ≡ tree_of before) }
+        ensures just_made { (before : StateOf) (k : ℕ) → IsJustMade before self.old.core.state txn k
+            → (result ≡ Ok k) × (tree_of self.new.core.state ≡ tree_of before) }
     {
         let stamp = self.core.undo_call(txn)?;
         self.past.tell(Event::Undo { stamp });
@@ -225,7 +239,9 @@ impl Recent {
 
     /// Makes the present tree the base, and forgets what has happened, as `Core::checkpoint` does.
     pub fn checkpoint(&mut self) -> Result<(), Fault>
-        ensures step { IsStep exact_rule self.old.core.state Checkpoint (answer_with (λ done. Cleared) result) self.new.core.state }
+        ensures step { IsStep exact_rule
+            self.old.core.state Checkpoint (answer_with (λ done. Cleared) result)
+            self.new.core.state }
         ensures ok { OnOk result (self.new.forgotten ≡ 0) }
         ensures err { OnErr result (self.new.forgotten ≡ self.old.forgotten) }
     {
@@ -239,7 +255,8 @@ impl Recent {
     pub fn sweep(&mut self) -> u64
         ensures same { self.new.core.state ≡ self.old.core.state }
         ensures forgotten { self.new.forgotten ≡ self.old.forgotten }
-        ensures count { places_in self.old.core.cells < 2 ^ 64 - 1 → places_in self.old.core.cells ≡ result + places_in self.new.core.cells }
+        ensures count { places_in self.old.core.cells < 2 ^ 64 - 1
+            → places_in self.old.core.cells ≡ result + places_in self.new.core.cells }
         ensures locked { EachUselessIsLocked self.old.core.state self.new.core.cells }
         ensures none_left { NoneIsLive self.old.core.state → HasNoUselessPlace self.new.core.cells }
     {

@@ -31,7 +31,11 @@ impl Model for Record {
 
     ghost coded = { coded_recording };
 
-    ghost view = { λ a. record { events = a.events.items; spare = a.spare; room = vec_capacity a.events - (vec_len a.events + a.spare) } };
+    ghost view = { λ a. record {
+      events = a.events.items;
+      spare = a.spare;
+      room = vec_capacity a.events - (vec_len a.events + a.spare);
+    } };
 
     ghost invariant = { λ a. vec_len a.events + a.spare ≤ vec_capacity a.events };
 }
@@ -47,6 +51,7 @@ impl Record {
         }
     }
 
+    /// Returns the events of the record.
     pub(crate) fn events(&self) -> &[Event]
         ensures { result.now ≡ self.now.events }
     {

@@ -4,7 +4,7 @@ ghost use Rattle.ft_tree.specs.Tidy.{tidy};
 ghost use Rattle.ft_tree.specs.Sound.{IsSoundTree, AreSoundCells};
 ghost use Rattle.ft_tree.specs.Sweep.{places_in};
 ghost use Rattle.ft_forest.specs.declared.TheConstants.{LAST_NUMBER as last_number};
-ghost use Rattle.ft_moss.specs.declared.rule.Rule.TheVariants.{Profile};
+ghost use Rattle.ft_lock_rules.specs.declared.rule.Rule.TheVariants.{Profile};
 ghost use Rattle.ft_core.specs.declared.request.Request.TheVariants.{Begin, Sub, Ask, Retry, Drop as DropAsk, Commit, Abort, Undo, Checkpoint};
 ghost use Rattle.ft_core.specs.declared.request.Answer.TheVariants.{Txn, Dropped, Committed, Aborted, Undone, Cleared};
 ghost use Rattle.ft_core.specs.declared.fault.Fault.TheVariants.{Memory as MemoryFault, BadLimits};
@@ -78,7 +78,8 @@ impl Recorded {
     pub fn with(alloc: Global, rule: Rule, limits: Limits) -> Result<Recorded, Fault>
         ensures state { IfOk result (λ core. core.state ≡ first_state rule limits) }
         ensures within { OnOk result (are_within limits greatest_limits ≡ true) }
-        ensures refused { IfErr result (λ fault. fault ≡ cond (are_within limits greatest_limits) MemoryFault BadLimits) }
+        ensures refused { IfErr result
+            (λ fault. fault ≡ cond (are_within limits greatest_limits) MemoryFault BadLimits) }
     {
         let core = Core::with(alloc, rule, limits)?;
         let recorded = Recorded::of(core)?;
@@ -123,7 +124,7 @@ impl Recorded {
         self.core().limits()
     }
 
-    /// Whether a transaction is live.
+    /// Returns whether a transaction is live.
     pub fn has_live(&self) -> bool
         ensures found { MatchBool result (SomeIsLive self.now.state) (NoneIsLive self.now.state) }
         ensures listed { result ≡ has_live self.now.state }
@@ -162,7 +163,8 @@ impl Recorded {
 
     /// Begins a subtransaction, as `Core::sub` does.
     pub fn sub(&mut self, txn: TxnId) -> Result<TxnId, Fault>
-        ensures { IsStep exact_rule self.old.state (Sub txn) (answer_with Txn result) self.new.state }
+        ensures { IsStep exact_rule self.old.state (Sub txn) (answer_with Txn result)
+            self.new.state }
     {
         self.recent.sub(txn)
     }
@@ -170,14 +172,16 @@ impl Recorded {
     /// Makes a call in a transaction, or returns which transactions it waits for, as `Core::ask`
     /// does.
     pub fn ask(&mut self, txn: TxnId, call: Call) -> Result<Outcome, Fault>
-        ensures { IsStep exact_rule self.old.state (Ask txn call) (answer_with outcome_answer result) self.new.state }
+        ensures { IsStep exact_rule self.old.state (Ask txn call)
+            (answer_with outcome_answer result) self.new.state }
     {
         self.recent.ask(txn, call)
     }
 
     /// Makes a copy of a call, as `ask` makes the call.
     pub fn ask_copy(&mut self, txn: TxnId, call: &Call) -> Result<Outcome, Fault>
-        ensures { IsStep exact_rule self.old.state (Ask txn call.now) (answer_with outcome_answer result) self.new.state }
+        ensures { IsStep exact_rule self.old.state (Ask txn call.now)
+            (answer_with outcome_answer result) self.new.state }
     {
         self.recent.ask_copy(txn, call)
     }
@@ -185,41 +189,49 @@ impl Recorded {
     /// Makes the call that a transaction waits for, or returns again which transactions it waits
     /// for, as `Core::retry` does.
     pub fn retry(&mut self, txn: TxnId) -> Result<Outcome, Fault>
-        ensures { IsStep exact_rule self.old.state (Retry txn) (answer_with outcome_answer result) self.new.state }
+        ensures { IsStep exact_rule self.old.state (Retry txn) (answer_with outcome_answer result)
+            self.new.state }
     {
         self.recent.retry(txn)
     }
 
     /// Forgets the call that a transaction waits for, as `Core::drop_ask` does.
     pub fn drop_ask(&mut self, txn: TxnId) -> Result<(), Fault>
-        ensures { IsStep exact_rule self.old.state (DropAsk txn) (answer_with (λ done. Dropped) result) self.new.state }
+        ensures { IsStep exact_rule
+            self.old.state (DropAsk txn) (answer_with (λ done. Dropped) result) self.new.state }
     {
         self.recent.drop_ask(txn)
     }
 
     /// Commits a transaction, as `Core::commit` does.
     pub fn commit(&mut self, txn: TxnId) -> Result<(), Fault>
-        ensures { IsStep exact_rule self.old.state (Commit txn) (answer_with (λ done. Committed) result) self.new.state }
+        ensures { IsStep exact_rule
+            self.old.state (Commit txn) (answer_with (λ done. Committed) result) self.new.state }
     {
         self.recent.commit(txn)
     }
 
     /// Aborts a transaction with all that is live below it, as `Core::abort` does.
     pub fn abort(&mut self, txn: TxnId) -> Result<u64, Fault>
-        ensures step { IsStep exact_rule self.old.state (Abort txn) (answer_with Aborted result) self.new.state }
+        ensures step { IsStep exact_rule self.old.state (Abort txn) (answer_with Aborted result)
+            self.new.state }
 
         // If it ran alone, the tree is that of its begin.
-        ensures alone { (before : StateOf) → RanAlone before self.old.state txn → (result ≡ Ok (count_standing self.old.state txn)) × (tree_of self.new.state ≡ tree_of before) }
+        ensures alone { (before : StateOf) → RanAlone before self.old.state txn
+            → (result ≡ Ok (count_standing self.old.state txn))
+            × (tree_of self.new.state ≡ tree_of before) }
     {
         self.recent.abort(txn)
     }
 
     /// Undoes the last of a transaction's own standing calls, as `Core::undo_call` does.
     pub fn undo_call(&mut self, txn: TxnId) -> Result<u64, Fault>
-        ensures step { IsStep exact_rule self.old.state (Undo txn) (answer_with Undone result) self.new.state }
+        ensures step { IsStep exact_rule self.old.state (Undo txn) (answer_with Undone result)
+            self.new.state }
 
         // The call just made is undone, and the tree is the one before it.
-        ensures just_made { (before : StateOf) (k : ℕ) → IsJustMade before self.old.state txn k → (result ≡ Ok k) × (tree_of self.new.state ≡ tree_of before) }
+        ensures just_made { (before : StateOf) (k : ℕ) → IsJustMade before self.old.state txn k
+            → (result ≡ Ok k) × (tree_of self.new.state ≡ tree_of before) }
     {
         self.recent.undo_call(txn)
     }
@@ -227,7 +239,8 @@ impl Recorded {
     /// Makes the present tree the base, and forgets what has happened, as `Core::checkpoint` does.
     /// Takes the memory and the time of a copy of the tree.
     pub fn checkpoint(&mut self) -> Result<(), Fault>
-        ensures { IsStep exact_rule self.old.state Checkpoint (answer_with (λ done. Cleared) result) self.new.state }
+        ensures { IsStep exact_rule self.old.state Checkpoint (answer_with (λ done. Cleared) result)
+            self.new.state }
     {
         self.recent.core().may_checkpoint()?;
         // (what is of no use is not copied)
@@ -241,7 +254,8 @@ impl Recorded {
     /// Drops places of the tree that are of no use any more, as `Core::sweep` does.
     pub fn sweep(&mut self) -> u64
         ensures same { self.new.state ≡ self.old.state }
-        ensures count { places_in self.old.cells < 2 ^ 64 - 1 → places_in self.old.cells ≡ result + places_in self.new.cells }
+        ensures count { places_in self.old.cells < 2 ^ 64 - 1
+            → places_in self.old.cells ≡ result + places_in self.new.cells }
         ensures locked { EachUselessIsLocked self.old.state self.new.cells }
         ensures none_left { NoneIsLive self.old.state → HasNoUselessPlace self.new.cells }
     {

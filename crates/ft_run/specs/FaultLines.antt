@@ -2,18 +2,18 @@
 use Rattle.std.specs.Prelude.{◌⊎◌, ℕ, List, [], ◌∷◌, ◌++◌, take, Option, codes, string_bytes}
 use Rattle.std.specs.Str.Lines.{strip_carriage_return}
 use Rattle.std.specs.Fmt.{decimal}
-use Rattle.ft_after.specs.declared.fault.AfterFault.{AfterFault}
-use Rattle.ft_after.specs.declared.fault.AfterFault.TheVariants as after
-use Rattle.ft_copy.specs.declared.trouble.Stopped.{Stopped}
-use Rattle.ft_copy.specs.declared.trouble.Trouble.{Trouble}
-use Rattle.ft_copy.specs.declared.trouble.Trouble.TheVariants as troubles
+use Rattle.ft_script.specs.declared.setup_fault.SetupFault.{SetupFault}
+use Rattle.ft_script.specs.declared.setup_fault.SetupFault.TheVariants as after
+use Rattle.ft_copy.specs.declared.copy_fault.CopyStop.{CopyStop}
+use Rattle.ft_copy.specs.declared.copy_fault.CopyFault.{CopyFault}
+use Rattle.ft_copy.specs.declared.copy_fault.CopyFault.TheVariants as troubles
 use Rattle.ft_plan.specs.declared.fault.JobFault.TheVariants as jobs
 use Rattle.ft_script.specs.declared.playing.PlayFault.{PlayFault}
 use Rattle.ft_script.specs.declared.playing.PlayFault.TheVariants.{Memory, Read, Write, TooLong, Turns}
 use Rattle.ft_script.specs.declared.strictly.FailedLine.{FailedLine}
 use Rattle.ft_script.specs.Runs.{WritesFront}
-use Rattle.ft_outcome.specs.declared.running.RunFault.{RunFault}
-use Rattle.ft_outcome.specs.declared.running.RunFault.TheVariants as run
+use Rattle.ft_job_text.specs.declared.running.RunFault.{RunFault}
+use Rattle.ft_job_text.specs.declared.running.RunFault.TheVariants as run
 use Rattle.ft_save.specs.declared.saving.SaveFault.{SaveFault}
 use Rattle.ft_save.specs.declared.saving.SaveFault.TheVariants as save
 use Rattle.ft_words.specs.Texts.{data_text}
@@ -45,13 +45,13 @@ abbrev pub strict_line : FailedLine → List ℕ
 strict_line failed = codes "fault: Strict " ++ decimal failed.number ++ codes ": " ++ shown_of failed.line.items ++ codes " = " ++ string_bytes failed.reply
 
 -- the same of a script that was not played first
-abbrev pub after_line : AfterFault → List ℕ
+abbrev pub after_line : SetupFault → List ℕ
 after_line after.Memory = fault_line Memory
 after_line after.BadLimits = codes "fault: BadLimits" ++ 10 ∷ []
 after_line (after.Script number) = codes "fault: Script " ++ decimal number ++ 10 ∷ []
 
 -- the name of what stopped a copy
-abbrev pub trouble_name : Trouble → List ℕ
+abbrev pub trouble_name : CopyFault → List ℕ
 trouble_name troubles.Memory = codes "Memory"
 trouble_name troubles.Read = codes "Read"
 trouble_name troubles.Write = codes "Write"
@@ -65,14 +65,14 @@ trouble_name troubles.Exists = codes "Exists"
 trouble_name troubles.Full = codes "Full"
 
 -- the same of a copy: the path after the name, coded, if it is not empty
-abbrev pub stopped_line : Stopped → List ℕ
+abbrev pub stopped_line : CopyStop → List ℕ
 stopped_line stopped = codes "fault: " ++ trouble_name stopped.trouble ++ data_text stopped.path ++ 10 ∷ []
 
 -- the same of a save
 abbrev pub save_line : SaveFault → List ℕ
 save_line (save.Replies fault) = fault_line fault
 save_line save.NoTree = codes "fault: NoTree" ++ 10 ∷ []
-save_line (save.Stopped stopped) = stopped_line stopped
+save_line (save.CopyStop stopped) = stopped_line stopped
 
 -- The line was written, or a beginning of it; or so was that of Memory, if there was none for the
 -- line.

@@ -1,5 +1,5 @@
 // Why the system has not done what it was asked for.
-use ft_copy::Trouble;
+use ft_copy::CopyFault;
 use ft_path::LONGEST_PATH;
 use ft_script::write_out;
 use std::cell::Cell;
@@ -30,28 +30,33 @@ impl Causes {
         self.last.set(None);
     }
 
+    /// Returns why it has not, if that is known.
+    pub fn last(&self) -> Option<ErrorKind> {
+        self.last.get()
+    }
+
     /// Returns why something was not read. The kit's library reports where a link leads only if
     /// that is UTF-8 text.
-    pub fn of_read(&self, error: io::Error) -> Trouble {
+    pub fn of_read(&self, error: io::Error) -> CopyFault {
         match error.kind() {
-            ErrorKind::OutOfMemory => Trouble::Memory,
-            ErrorKind::InvalidFilename => Trouble::BadName,
+            ErrorKind::OutOfMemory => CopyFault::Memory,
+            ErrorKind::InvalidFilename => CopyFault::BadName,
             _ => {
                 self.note(&error);
-                Trouble::Read
+                CopyFault::Read
             }
         }
     }
 
     /// Why something could not be made at a place, of which the path has so many bytes.
-    pub fn of_write(&self, length: usize, error: io::Error) -> Trouble {
+    pub fn of_write(&self, length: usize, error: io::Error) -> CopyFault {
         match error.kind() {
-            ErrorKind::OutOfMemory => Trouble::Memory,
-            ErrorKind::InvalidFilename if length >= LONGEST_PATH => Trouble::PathTooLong,
-            ErrorKind::InvalidFilename => Trouble::BadName,
+            ErrorKind::OutOfMemory => CopyFault::Memory,
+            ErrorKind::InvalidFilename if length >= LONGEST_PATH => CopyFault::PathTooLong,
+            ErrorKind::InvalidFilename => CopyFault::BadName,
             _ => {
                 self.note(&error);
-                Trouble::Write
+                CopyFault::Write
             }
         }
     }

@@ -1,22 +1,24 @@
 // A directory on disk as a source.
 use crate::causes::{Causes, Noted};
+use crate::explained::say;
 use crate::held::{Held, id_of};
 use ft_cells::{Attributes, MOST_NANOSECONDS, Timestamp};
 use ft_copy::{
-    FileFacts, FileId, Found, FoundFile, FoundFolder, Given, Leading, Listed, Listing, Opened,
-    Source, Trouble, name_of,
+    CopyFault, FileFacts, FileId, FolderEntry, Found, FoundFile, FoundFolder, Given, Leading,
+    Listing, Opened, Source, name_of,
 };
 use ft_path::{LONGEST_PATH, Name};
+use ft_words::PercentCoded;
 use std::cell::{Cell, RefCell};
 use std::fs::{File, Files, Metadata};
 use std::io::Read;
-use std::os::unix::fs::MetadataExt;
+use std::os::unix::fs::{FileTypeExt, MetadataExt};
 use std::{fs, str};
 
-// How many bytes of names are read at once.
+/// How many bytes of names are read at once.
 const NAMES: usize = 4_096;
 
-// How many modes there are. The system puts the kind of a file above them.
+/// How many modes there are. The system puts the kind of a file above them.
 const MODES: u32 = 0o10000;
 
 /// A directory on disk, which is read and never written.
@@ -36,6 +38,10 @@ pub struct DiskSource<'a> {
     listed: RefCell<Vec<FileId>>,
     // the one that is held open, and its number
     held: Cell<Option<(u64, Held)>>,
+    // whether sentences say what can't be loaded
+    explains: Cell<bool>,
+    // what was looked at last that is neither a file, a directory nor a link
+    special: Cell<&'static str>,
 }
 
 impl<'a> DiskSource<'a> {
@@ -54,28 +60,68 @@ impl<'a> DiskSource<'a> {
             tells_names,
             listed: RefCell::new(Vec::new(rt.alloc())),
             held: Cell::new(None),
+            explains: Cell::new(false),
+            special: Cell::new(""),
         }
     }
 
-    // The place of a path of the tree on disk. A path that is no text has no place there.
-    fn place(&self, path: &[u8]) -> Result<String, Trouble> {
+    /// Begins to print what keeps the directory from being loaded: that it can't be read, or
+    /// something special in it. Each is a sentence on standard error.
+    pub fn begin(&self) {
+        self.explains.set(true);
+    }
+
+    /// Returns the given fault. If the directory itself can't be read, a sentence names it first.
+    fn explained(&self, path: &[u8], fault: CopyFault) -> CopyFault {
+        if path.is_empty() && fault == CopyFault::Read && self.explains.get() {
+            let alloc = self.rt.alloc();
+            let dir = self.dir;
+            match self.causes.last() {
+                Some(kind) => say(
+                    self.rt,
+                    format!(in alloc; "cannot read the directory '{dir}': {kind}"),
+                ),
+                None => say(
+                    self.rt,
+                    format!(in alloc; "cannot read the directory '{dir}'"),
+                ),
+            }
+        }
+        fault
+    }
+
+    /// Says that something special at a path can't be loaded.
+    fn refuse(&self, path: &[u8]) {
+        if !self.explains.get() {
+            return;
+        }
+        let path = PercentCoded(path);
+        let special = self.special.get();
+        let sentence = format!(in self.rt.alloc();
+            "cannot load '{path}': it is {special} (--skip leaves it out)"
+        );
+        say(self.rt, sentence);
+    }
+
+    /// Returns the place of a path of the tree on disk. A path that is no text has no place there.
+    fn place(&self, path: &[u8]) -> Result<String, CopyFault> {
         let Ok(path) = str::from_utf8(path) else {
-            return Err(Trouble::BadName);
+            return Err(CopyFault::BadName);
         };
         if self.dir.len().saturating_add(path.len()) > LONGEST_PATH {
-            return Err(Trouble::PathTooLong);
+            return Err(CopyFault::PathTooLong);
         }
         Ok(format!(in self.rt.alloc(); "{}{path}", self.dir)?)
     }
 
-    // The path by which the system gets at a place: the directory itself, or a name in the directory
-    // that has this number among those that were listed.
-    fn reached(&self, path: &[u8], node: u64) -> Result<String, Trouble> {
+    /// Returns the path by which the system gets at a place: the directory itself, or a name in the
+    /// directory that has this number among those that were listed.
+    fn reached(&self, path: &[u8], node: u64) -> Result<String, CopyFault> {
         let place = self.place(path)?;
         let Some(slash) = path.iter().rposition(|byte| *byte == b'/') else {
             return Ok(place);
         };
-        let name = str::from_utf8(&path[slash..]).map_err(|_| Trouble::BadName)?;
+        let name = str::from_utf8(&path[slash..]).map_err(|_| CopyFault::BadName)?;
         let (number, held) = match self.held.take() {
             Some((number, held)) if number == node => (number, held),
             _ => (node, self.listed_before(&path[..slash], node)?),
@@ -85,24 +131,24 @@ impl<'a> DiskSource<'a> {
         Ok(reached?)
     }
 
-    // Opens the directory again that has this number among those that were listed. Another one in
-    // its place is not taken.
-    fn listed_before(&self, path: &[u8], node: u64) -> Result<Held, Trouble> {
+    /// Opens again the directory that has this number among those that were listed. Refuses another
+    /// directory in its place.
+    fn listed_before(&self, path: &[u8], node: u64) -> Result<Held, CopyFault> {
         let place = self.place(path)?;
         let held = self.opened(place.as_str(), path)?;
         match self.listed.try_borrow() {
             Ok(listed) if listed.get(node as usize) == Some(&held.id) => Ok(held),
-            _ => Err(Trouble::Read),
+            _ => Err(CopyFault::Read),
         }
     }
 
-    // Opens the directory of a path, by which the system gets at it at a place.
-    fn opened(&self, place: &str, path: &[u8]) -> Result<Held, Trouble> {
+    /// Opens the directory of a path, by which the system gets at it at a place.
+    fn opened(&self, place: &str, path: &[u8]) -> Result<Held, CopyFault> {
         Held::open(self.rt, place, self.place(path)?).map_err(|error| self.causes.of_read(error))
     }
 
-    // The names in an open directory.
-    fn names_in(&self, held: &Held) -> Result<Vec<Name>, Trouble> {
+    /// Returns the names in an open directory.
+    fn names_in(&self, held: &Held) -> Result<Vec<Name>, CopyFault> {
         let alloc = self.rt.alloc();
         let slashed = format!(in alloc; "{}/", held.place)?;
         let mut listing = self
@@ -121,27 +167,27 @@ impl<'a> DiskSource<'a> {
             }
             self.add_names(&room[..count], &mut names)?;
         }
-        Err(Trouble::Read)
+        Err(CopyFault::Read)
     }
 
-    // Adds names, each of which a null byte ends.
-    fn add_names(&self, bytes: &[u8], names: &mut Vec<Name>) -> Result<(), Trouble> {
+    /// Adds names, each of which a null byte ends.
+    fn add_names(&self, bytes: &[u8], names: &mut Vec<Name>) -> Result<(), CopyFault> {
         for name in bytes.split(|byte| *byte == 0) {
             if name.is_empty() || name == b".".as_slice() || name == b"..".as_slice() {
                 continue;
             }
             if !self.tells_names && str::from_utf8(name).is_err() {
-                return Err(Trouble::BadName);
+                return Err(CopyFault::BadName);
             }
             names.push(name_of(self.rt.alloc(), name)?)?;
         }
         Ok(())
     }
 
-    // Holds a directory open that was listed, and returns its number.
-    fn hold(&self, held: Held) -> Result<u64, Trouble> {
+    /// Holds a directory open that was listed, and returns its number.
+    fn hold(&self, held: Held) -> Result<u64, CopyFault> {
         let Ok(mut listed) = self.listed.try_borrow_mut() else {
-            return Err(Trouble::Read);
+            return Err(CopyFault::Read);
         };
         let number = listed.len() as u64;
         listed.push(held.id)?;
@@ -153,9 +199,11 @@ impl<'a> DiskSource<'a> {
 impl<'a> Source for DiskSource<'a> {
     type File = Noted<'a, File>;
 
-    fn names(&self, path: &[u8], node: u64) -> Result<Listing, Trouble> {
+    fn names(&self, path: &[u8], node: u64) -> Result<Listing, CopyFault> {
         let alloc = self.rt.alloc();
-        let held = self.opened(self.reached(path, node)?.as_str(), path)?;
+        let held = self
+            .opened(self.reached(path, node)?.as_str(), path)
+            .map_err(|fault| self.explained(path, fault))?;
         let found = self.names_in(&held)?;
         let id = held
             .id_now(self.rt)
@@ -163,12 +211,12 @@ impl<'a> Source for DiskSource<'a> {
         let node = self.hold(held)?;
         let mut names = Vec::with_capacity(alloc, found.len())?;
         for name in found {
-            names.push(Listed { name, node })?;
+            names.push(FolderEntry { name, node })?;
         }
         Ok(Listing { id, names })
     }
 
-    fn look(&self, path: &[u8], node: u64) -> Result<Found, Trouble> {
+    fn look(&self, path: &[u8], node: u64) -> Result<Found, CopyFault> {
         let place = if path.is_empty() {
             // (it may be a symbolic link that leads to the directory)
             format!(in self.rt.alloc(); "{}/", self.dir)?
@@ -176,19 +224,26 @@ impl<'a> Source for DiskSource<'a> {
             self.reached(path, node)?
         };
         match fs::symlink_metadata(self.rt, place.as_str()) {
-            Ok(metadata) => Ok(found(&metadata)),
-            Err(error) => Err(self.causes.of_read(error)),
+            Ok(metadata) => {
+                self.special.set(kind_of(&metadata));
+                Ok(found(&metadata))
+            }
+            Err(error) => Err(self.explained(path, self.causes.of_read(error))),
         }
     }
 
-    // (The kit opens no file without following a symbolic link, nor without waiting for a FIFO. A
-    // link that has come meanwhile leads to another file than the one that was looked at.)
-    fn open(&self, path: &[u8], node: u64) -> Result<Opened<Noted<'a, File>>, Trouble> {
+    /// Opens a file. (The kit follows a symbolic link when it opens a file, and waits for a FIFO. A
+    /// link that has come meanwhile leads to another file than the one that was looked at.)
+    fn open(&self, path: &[u8], node: u64) -> Result<Opened<Noted<'a, File>>, CopyFault> {
         let place = self.reached(path, node)?;
         let file = File::open(self.rt, place.as_str()).map_err(|error| self.causes.of_read(error))?;
         let metadata = file.metadata().map_err(|error| self.causes.of_read(error))?;
         if found(&metadata) == Found::Special {
-            return Err(Trouble::Special);
+            self.special.set(kind_of(&metadata));
+            if !self.tells_names {
+                self.refuse(path);
+            }
+            return Err(CopyFault::Special);
         }
         Ok(Opened {
             id: id_of(&metadata),
@@ -196,7 +251,7 @@ impl<'a> Source for DiskSource<'a> {
         })
     }
 
-    fn read_link(&self, path: &[u8], node: u64) -> Result<Leading, Trouble> {
+    fn read_link(&self, path: &[u8], node: u64) -> Result<Leading, CopyFault> {
         let place = self.reached(path, node)?;
         let to = fs::read_link(self.rt, place.as_str()).map_err(|error| self
             .causes
@@ -210,12 +265,13 @@ impl<'a> Source for DiskSource<'a> {
         })
     }
 
-    fn omits(&self, _path: &[u8]) -> Result<bool, Trouble> {
+    fn omits(&self, path: &[u8]) -> Result<bool, CopyFault> {
+        self.refuse(path);
         Ok(false)
     }
 }
 
-// What the system reports of a directory or file.
+/// Returns what the system reports of a directory or file.
 fn found(metadata: &Metadata) -> Found {
     if metadata.is_dir() {
         return Found::Folder(FoundFolder {
@@ -241,7 +297,19 @@ fn found(metadata: &Metadata) -> Found {
     }
 }
 
-// The mode of a directory or file, without its kind, and its owners.
+/// Returns what something is that is neither a file, a directory nor a link.
+fn kind_of(metadata: &Metadata) -> &'static str {
+    let kind = metadata.file_type();
+    if kind.is_fifo() {
+        "a FIFO"
+    } else if kind.is_socket() {
+        "a socket"
+    } else {
+        "a device"
+    }
+}
+
+/// Returns the mode of a directory or file, without its kind, and its owners.
 fn attributes_of(metadata: &Metadata) -> Attributes {
     Attributes {
         mode: (metadata.mode() % MODES) as u16,
@@ -250,7 +318,7 @@ fn attributes_of(metadata: &Metadata) -> Attributes {
     }
 }
 
-// When its bytes were changed last.
+/// Returns when the bytes of a file were changed last.
 fn time_of(metadata: &Metadata) -> Timestamp {
     let nanoseconds = u32::try_from(metadata.mtime_nsec()).unwrap_or(0);
     Timestamp {

@@ -1,21 +1,22 @@
 // A directory on disk as a target.
 use crate::causes::Causes;
+use crate::explained::say;
 use crate::giving::Giving;
 use crate::held::id_of;
 use crate::removal::Removal;
 use ft_cells::{Attributes, Timestamp};
-use ft_copy::{FileId, Target, Trouble};
+use ft_copy::{CopyFault, FileId, Target};
 use ft_script::write_out;
 use std::fs::{DirBuilder, File, OpenOptions, Permissions};
 use std::io::{ErrorKind, Write};
 use std::os::unix::fs::{DirBuilderExt, MetadataExt, OpenOptionsExt, PermissionsExt, symlink};
 use std::{fs, io, str};
 
-// How many names alongside the directory are tried.
+/// How many names alongside the directory are tried.
 const MOST_TRIES: u32 = 1_000;
 
-// The modes of directories and files until they are whole: nobody else gets at them, and their owner
-// can fill them.
+/// The modes of directories and files until they are whole: only their owner gets at them, and can
+/// fill them.
 const BEGUN_FOLDER: u32 = 0o700;
 
 const BEGUN_FILE: u32 = 0o600;
@@ -39,14 +40,14 @@ pub struct DiskTarget<'a> {
     file: Option<OpenFile>,
 }
 
-// A file that is open, and what it is to have.
+/// An open file, and what it is to have.
 #[derive(Drop)]
 struct OpenFile {
     file: File,
     attributes: Attributes,
 }
 
-// A directory that was begun.
+/// A directory that was begun.
 #[derive(Drop)]
 struct Begun {
     // its place
@@ -59,7 +60,7 @@ struct Begun {
     removal: Removal,
 }
 
-// A directory that was made: its place, and what distinguishes it from all others.
+/// A directory that was made: its place, and what distinguishes it from all others.
 #[derive(Drop)]
 struct Made {
     place: String,
@@ -67,7 +68,7 @@ struct Made {
 }
 
 impl Made {
-    // Whether it is there, and no other and no symbolic link.
+    /// Returns whether the directory is there, and not another one or a symbolic link.
     fn is_there(&self, rt: &HostRuntime) -> bool {
         match fs::symlink_metadata(rt, self.place.as_str()) {
             Ok(metadata) => metadata.is_dir() && id_of(&metadata) == self.id,
@@ -94,19 +95,19 @@ impl<'a> DiskTarget<'a> {
         }
     }
 
-    // The place of a path of the tree until the directory is whole.
-    fn place(&self, path: &[u8]) -> Result<String, Trouble> {
+    /// Returns the place of a path of the tree until the directory is whole.
+    fn place(&self, path: &[u8]) -> Result<String, CopyFault> {
         let Ok(path) = str::from_utf8(path) else {
-            return Err(Trouble::BadName);
+            return Err(CopyFault::BadName);
         };
         match &self.begun {
             Some(begun) => Ok(format!(in self.rt.alloc(); "{}{path}", begun.beside.place)?),
-            None => Err(Trouble::Write),
+            None => Err(CopyFault::Write),
         }
     }
 
-    // Makes a directory alongside the place, by the first name that is free.
-    fn make_beside(&self) -> Result<Made, Trouble> {
+    /// Makes a directory alongside the place, by the first name that is free.
+    fn make_beside(&self) -> Result<Made, CopyFault> {
         for number in 0..MOST_TRIES {
             let place = format!(in self.rt.alloc(); "{}.part{number}", self.dir)?;
             match make_folder(self.rt, place.as_str()) {
@@ -114,24 +115,61 @@ impl<'a> DiskTarget<'a> {
                 Err(error) if error.kind() == ErrorKind::AlreadyExists => {}
                 // (its name is longer than that of the directory)
                 Err(error) if error.kind() == ErrorKind::InvalidFilename => {
-                    return Err(Trouble::PathTooLong);
+                    return Err(CopyFault::PathTooLong);
                 }
-                Err(error) => return Err(self.causes.of_write(place.len(), error)),
+                Err(error) => return Err(self.unmade(place.as_str(), error)),
             }
         }
-        Err(Trouble::Exists)
+        let dir = self.dir;
+        say(
+            self.rt,
+            format!(in self.rt.alloc(); "'{dir}.part0' to '{dir}.part999' exist already"),
+        );
+        Err(CopyFault::Exists)
     }
 
-    // Whether something is at the place that the directory is to have.
+    /// Returns the fault of a directory that can't be made at a place, after a sentence that says
+    /// why.
+    fn unmade(&self, place: &str, error: io::Error) -> CopyFault {
+        let kind = error.kind();
+        let fault = self.causes.of_write(place.len(), error);
+        if fault == CopyFault::Write {
+            let alloc = self.rt.alloc();
+            say(
+                self.rt,
+                format!(in alloc; "cannot make the directory '{place}': {kind}"),
+            );
+        }
+        fault
+    }
+
+    /// Returns the fault of a place that something else has, after a sentence that names it.
+    fn taken(&self) -> CopyFault {
+        let dir = self.dir;
+        if dir.is_empty() {
+            say(
+                self.rt,
+                format!(in self.rt.alloc(); "the directory to be made has no name"),
+            );
+        } else {
+            say(
+                self.rt,
+                format!(in self.rt.alloc(); "'{dir}' exists already"),
+            );
+        }
+        CopyFault::Exists
+    }
+
+    /// Returns whether something is at the place that the directory is to have.
     fn is_taken(&self) -> bool {
         self.dir.is_empty() || fs::symlink_metadata(self.rt, self.dir).is_ok()
     }
 }
 
 impl Target for DiskTarget<'_> {
-    fn start(&mut self) -> Result<(), Trouble> {
+    fn start(&mut self) -> Result<(), CopyFault> {
         if self.is_taken() {
-            return Err(Trouble::Exists);
+            return Err(self.taken());
         }
         let alloc = self.rt.alloc();
         let removal = Removal::new(alloc)?;
@@ -146,18 +184,18 @@ impl Target for DiskTarget<'_> {
         Ok(())
     }
 
-    fn folder(&mut self, path: &[u8], attributes: Attributes) -> Result<(), Trouble> {
+    fn folder(&mut self, path: &[u8], attributes: Attributes) -> Result<(), CopyFault> {
         let place = self.place(path)?;
         let id = make_folder(self.rt, place.as_str()).map_err(|error| self
             .causes
             .of_write(place.len(), error))?;
         match &mut self.begun {
             Some(begun) => Ok(begun.folders.push((Made { place, id }, attributes))?),
-            None => Err(Trouble::Write),
+            None => Err(CopyFault::Write),
         }
     }
 
-    fn open(&mut self, path: &[u8], attributes: Attributes) -> Result<(), Trouble> {
+    fn open(&mut self, path: &[u8], attributes: Attributes) -> Result<(), CopyFault> {
         let place = self.place(path)?;
         let file = OpenOptions::new()
             .write(true)
@@ -169,21 +207,21 @@ impl Target for DiskTarget<'_> {
         Ok(())
     }
 
-    fn piece(&mut self, bytes: &[u8]) -> Result<(), Trouble> {
+    fn piece(&mut self, bytes: &[u8]) -> Result<(), CopyFault> {
         let causes = self.causes;
         match &mut self.file {
             Some(open) => open
                 .file
                 .write_all(bytes)
                 .map_err(|error| causes.of_write(0, error)),
-            None => Err(Trouble::Write),
+            None => Err(CopyFault::Write),
         }
     }
 
-    fn close(&mut self, time: Option<Timestamp>) -> Result<(), Trouble> {
+    fn close(&mut self, time: Option<Timestamp>) -> Result<(), CopyFault> {
         let causes = self.causes;
         let (Some(open), Some(begun)) = (self.file.take(), &mut self.begun) else {
-            return Err(Trouble::Write);
+            return Err(CopyFault::Write);
         };
         let giving = &mut begun.giving;
         giving
@@ -192,7 +230,7 @@ impl Target for DiskTarget<'_> {
             .map_err(|error| causes.of_write(0, error))
     }
 
-    fn link(&mut self, first: &[u8], path: &[u8]) -> Result<(), Trouble> {
+    fn link(&mut self, first: &[u8], path: &[u8]) -> Result<(), CopyFault> {
         let first = self.place(first)?;
         let place = self.place(path)?;
         fs::hard_link(self.rt, first.as_str(), place.as_str()).map_err(|error| self
@@ -200,9 +238,9 @@ impl Target for DiskTarget<'_> {
             .of_write(place.len(), error))
     }
 
-    fn symlink(&mut self, to: &[u8], path: &[u8]) -> Result<(), Trouble> {
+    fn symlink(&mut self, to: &[u8], path: &[u8]) -> Result<(), CopyFault> {
         let Ok(to) = str::from_utf8(to) else {
-            return Err(Trouble::BadName);
+            return Err(CopyFault::BadName);
         };
         let place = self.place(path)?;
         symlink(self.rt, to, place.as_str()).map_err(|error| self
@@ -210,13 +248,13 @@ impl Target for DiskTarget<'_> {
             .of_write(place.len(), error))
     }
 
-    fn finish(&mut self, attributes: Attributes) -> Result<(), Trouble> {
+    fn finish(&mut self, attributes: Attributes) -> Result<(), CopyFault> {
         if self.is_taken() {
-            return Err(Trouble::Exists);
+            return Err(self.taken());
         }
         let causes = self.causes;
         let Some(begun) = &mut self.begun else {
-            return Err(Trouble::Write);
+            return Err(CopyFault::Write);
         };
         begun.give_folders(self.rt, causes, attributes)?;
         let losses = begun.giving.losses(self.rt.alloc())?;
@@ -239,14 +277,14 @@ impl Target for DiskTarget<'_> {
 }
 
 impl Begun {
-    // Gives the directories what they are to have, those in a directory before it, and the whole
-    // last.
+    /// Gives the directories what they are to have. Those in a directory come before it, and the
+    /// whole comes last.
     fn give_folders(
         &mut self,
         rt: &HostRuntime,
         causes: &Causes,
         attributes: Attributes,
-    ) -> Result<(), Trouble> {
+    ) -> Result<(), CopyFault> {
         let giving = &mut self.giving;
         for (made, given) in self.folders.iter().rev() {
             give_folder(rt, causes, giving, made, *given)?;
@@ -255,32 +293,32 @@ impl Begun {
     }
 }
 
-// Gives a directory that was made what it is to have. Anything in its place that is not this
-// directory gets nothing, and is not opened.
+/// Gives a directory that was made what it is to have. If anything else is in its place, that gets
+/// nothing and is not opened.
 fn give_folder(
     rt: &HostRuntime,
     causes: &Causes,
     giving: &mut Giving,
     made: &Made,
     attributes: Attributes,
-) -> Result<(), Trouble> {
+) -> Result<(), CopyFault> {
     let place = made.place.as_str();
     if !made.is_there(rt) {
-        return Err(Trouble::Write);
+        return Err(CopyFault::Write);
     }
     let folder = File::open(rt, place).map_err(|error| causes.of_write(place.len(), error))?;
     let metadata = folder
         .metadata()
         .map_err(|error| causes.of_write(place.len(), error))?;
     if id_of(&metadata) != made.id {
-        return Err(Trouble::Write);
+        return Err(CopyFault::Write);
     }
     giving
         .give(&folder, attributes)
         .map_err(|error| causes.of_write(place.len(), error))
 }
 
-// Makes a directory, which only its owner gets at, whatever the umask takes away from its mode.
+/// Makes a directory that only its owner gets at, whatever the umask removes from its mode.
 fn make_folder(rt: &HostRuntime, place: &str) -> io::Result<FileId> {
     DirBuilder::new().mode(BEGUN_FOLDER).create(rt, place)?;
     let metadata = fs::symlink_metadata(rt, place)?;

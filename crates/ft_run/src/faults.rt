@@ -2,9 +2,9 @@
 ghost use Rattle.std.specs.Prelude.{◌≡◌};
 ghost use Rattle.ft_run.specs.FaultLines.{fault_line, run_fault_line, trouble_name};
 
-use ft_copy::Trouble;
+use ft_copy::CopyFault;
+use ft_job_text::RunFault;
 use ft_jobs::JobFault;
-use ft_outcome::RunFault;
 use ft_script::PlayFault;
 
 /// Returns the line that reports a fault, with its line feed.
@@ -20,7 +20,7 @@ pub fn fault_line(fault: PlayFault) -> &'static str
     }
 }
 
-/// The same of a fault of a plan.
+/// Returns the line that reports a fault of a plan, with its line feed.
 pub fn run_fault_line(fault: RunFault) -> &'static str
     ensures { result.now ≡ run_fault_line fault }
 {
@@ -34,20 +34,20 @@ pub fn run_fault_line(fault: RunFault) -> &'static str
 }
 
 /// The name of what stopped a copy.
-pub(crate) fn trouble_name(trouble: Trouble) -> &'static str
+pub(crate) fn trouble_name(trouble: CopyFault) -> &'static str
     ensures { result.now ≡ trouble_name trouble }
 {
     match trouble {
-        Trouble::Memory => "Memory",
-        Trouble::Read => "Read",
-        Trouble::Write => "Write",
-        Trouble::Special => "Special",
-        Trouble::TooLarge => "TooLarge",
-        Trouble::TooManyLinks => "TooManyLinks",
-        Trouble::PathTooLong => "PathTooLong",
-        Trouble::BadName => "BadName",
-        Trouble::BadTree => "BadTree",
-        Trouble::Exists => "Exists",
-        Trouble::Full => "Full",
+        CopyFault::Memory => "Memory",
+        CopyFault::Read => "Read",
+        CopyFault::Write => "Write",
+        CopyFault::Special => "Special",
+        CopyFault::TooLarge => "TooLarge",
+        CopyFault::TooManyLinks => "TooManyLinks",
+        CopyFault::PathTooLong => "PathTooLong",
+        CopyFault::BadName => "BadName",
+        CopyFault::BadTree => "BadTree",
+        CopyFault::Exists => "Exists",
+        CopyFault::Full => "Full",
     }
 }

@@ -7,7 +7,7 @@ use std::os::unix::fs::{MetadataExt, PermissionsExt, fchown};
 use std::time::{Duration, SystemTime, UNIX_EPOCH};
 use std::{fs, io};
 
-// The mode bit S_ISGID. S_ISUID is the only one above it.
+/// The mode bit S_ISGID. S_ISUID is the only one above it.
 const SET_GROUP_ID: u16 = 0o2000;
 
 /// Gives open files and directories what they are to have, and counts what could not be kept.
@@ -52,7 +52,7 @@ impl Giving {
         Ok(())
     }
 
-    // Gives it its owner and its group, and returns whether it has them.
+    /// Gives a file or directory its owner and its group, and returns whether it has them.
     fn own(&mut self, file: &File, attributes: Attributes) -> io::Result<bool> {
         if is_owned(&file.metadata()?, attributes) {
             return Ok(true);
@@ -103,23 +103,23 @@ impl Giving {
     }
 }
 
-// Sets the mode of an open file or directory.
+/// Sets the mode of an open file or directory.
 fn set_mode(file: &File, mode: u16) -> io::Result<()> {
     file.set_permissions(Permissions::from_mode(u32::from(mode)))
 }
 
-// Whether something has this owner and this group.
+/// Returns whether something has this owner and this group.
 fn is_owned(metadata: &Metadata, attributes: Attributes) -> bool {
     metadata.uid() == attributes.owner && metadata.gid() == attributes.group
 }
 
-// Whether the bytes of something have this time.
+/// Returns whether the bytes of something have this time.
 fn is_timed(metadata: &Metadata, time: Timestamp) -> bool {
     metadata.mtime() == time.seconds && metadata.mtime_nsec() == i64::from(time.nanoseconds)
 }
 
-// Whether the system lets nobody, or not this process, set such an owner: without the right to, in a
-// user namespace without such an owner, or on a file system that has no owners.
+/// Returns whether the system lets nobody, or not this process, set such an owner. The process may
+/// lack the right to, the user namespace may lack the owner, or the file system may have no owners.
 fn is_refused(error: &io::Error) -> bool {
     matches!(
         error.kind(),
@@ -127,7 +127,8 @@ fn is_refused(error: &io::Error) -> bool {
     )
 }
 
-// A time as the system's. None before 1970, since a `SystemTime` is none of those here.
+/// Returns a time as the system's. Returns `None` before 1970, since no `SystemTime` here is
+/// earlier.
 fn system_time(time: Timestamp) -> Option<SystemTime> {
     let seconds = u64::try_from(time.seconds).ok()?;
     UNIX_EPOCH.checked_add(Duration::new(seconds, time.nanoseconds))

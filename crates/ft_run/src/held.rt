@@ -42,7 +42,7 @@ impl Held {
     }
 }
 
-// The directory at a place, or at the end of the symbolic link there.
+/// Returns what distinguishes the directory at a place, or at the end of the symbolic link there.
 fn looked_into(rt: &HostRuntime, place: &str) -> io::Result<FileId> {
     let slashed = format!(in rt.alloc(); "{place}/")?;
     Ok(id_of(&fs::symlink_metadata(rt, slashed.as_str())?))

@@ -13,6 +13,7 @@
 mod causes;
 mod disk_source;
 mod disk_target;
+mod explained;
 mod faults;
 mod giving;
 mod held;
@@ -30,13 +31,14 @@ ghost use Rattle.ft_core.specs.States.{at_base};
 use crate::causes::{Causes, Noted};
 use crate::disk_source::DiskSource;
 use crate::disk_target::DiskTarget;
+use crate::explained::{Explained, say};
 use crate::faults::fault_line;
 use crate::skipping::SkippingSource;
 use crate::status::{
-    after_failed, dot_status, failed, jobs_status, load_status, play_status, save_status,
+    dot_status, jobs_status, load_status, play_status, report_fault, report_setup_fault,
+    save_status,
 };
 use crate::strictly::play_strictly_status;
-use ft_after::core_after;
 use ft_base::Memory;
 use ft_command::{AskedLimits, Choice, choose};
 use ft_copy::{CopyLimits, Source};
@@ -45,14 +47,15 @@ use ft_jobs::{LONGEST_PLAN, Pace};
 use ft_load::needs_of;
 use ft_needs::{limits_for, raised_for};
 use ft_record::Recorded;
-use ft_script::{PlayFault, write_out};
-use ft_shown::ShownTarget;
+use ft_screen::ShownTarget;
+use ft_script::{PlayFault, SetupFault, core_with_setup, write_out};
 use std::fs::{File, Files};
 use std::io::{ErrorKind, IsTerminal, Read, Stderr, Write};
 use std::process::ExitCode;
 use std::random::RandomSource;
 use std::{env, io};
 
+/// Carries out the task that the command line requests, and returns the status to end with.
 fn main(rt: HostRuntime) -> ExitCode {
     let alloc = rt.alloc();
     let choice = match words_given(&rt) {
@@ -120,24 +123,24 @@ fn main(rt: HostRuntime) -> ExitCode {
                 },
                 screen(&rt, quiet),
                 &mut rt.stdout(),
-                &mut rt.stderr(),
+                &mut Explained::of_plan(&rt, file.as_str(), plan.as_slice()),
             ),
             Err(status) => status,
         },
         Choice::Help(text) => helped(&rt, text.as_str()),
         Choice::Usage(text) => misused(&rt, text),
-        Choice::Fault => failed(&mut rt.stderr(), fault_line(PlayFault::Memory)),
+        Choice::Fault => report_fault(&mut rt.stderr(), fault_line(PlayFault::Memory)),
     };
     ExitCode::from(status)
 }
 
-// The words after the program's name.
+/// Returns the words after the program's name.
 fn words_given(rt: &HostRuntime) -> io::Result<Vec<String>> {
     Ok(env::args(rt)?.skip(1).collect(rt.alloc())?)
 }
 
-// Runs the script on standard input, whose first line may list the limits that it needs. If the run
-// is strict, each of its lines must do what it requests.
+/// Runs the script on standard input, whose first line may list the limits that it needs. If the
+/// run is strict, each of its lines must do what it requests.
 fn run_script(
     rt: &HostRuntime,
     strict: bool,
@@ -149,7 +152,7 @@ fn run_script(
     let mut input = rt.stdin();
     let (needed, front) = match limits_for(alloc, Limits::default(), &mut input) {
         Ok(begun) => begun,
-        Err(error) => return failed(&mut rt.stderr(), fault_line(fault_of(&error))),
+        Err(error) => return report_fault(&mut rt.stderr(), fault_line(fault_of(&error))),
     };
     let core = match core_for(rt, rule, asked, needed, after) {
         Ok(core) => core,
@@ -165,7 +168,7 @@ fn run_script(
     }
 }
 
-// The fault that a failed read is.
+/// Returns the fault of a failed read.
 fn fault_of(error: &io::Error) -> PlayFault {
     match error.kind() {
         ErrorKind::OutOfMemory => PlayFault::Memory,
@@ -174,8 +177,8 @@ fn fault_of(error: &io::Error) -> PlayFault {
     }
 }
 
-// The core and the plan of a run of jobs. If one of them could not be had, that was reported, and
-// the status to end with is returned.
+/// Returns the core and the plan of a run of jobs. If one of them could not be had, that was
+/// reported, and the error is the status to end with.
 fn begun_jobs(
     rt: &HostRuntime,
     file: &str,
@@ -186,40 +189,47 @@ fn begun_jobs(
     ensures { IfOk result (λ begun. NoneIsLive begun.0.state) }
 {
     let Ok(core) = Recorded::of(core_for(rt, rule, asked, Limits::default(), after)?) else {
-        return Err(failed(&mut rt.stderr(), fault_line(PlayFault::Memory)));
+        return Err(report_fault(&mut rt.stderr(), fault_line(PlayFault::Memory)));
     };
     match read_file(rt, file, LONGEST_PLAN as u64 + 1) {
         Ok(plan) => Ok((core, plan)),
-        Err(error) => Err(unread(rt, &error)),
+        Err(error) => Err(unread(rt, "the plan", file, &error)),
     }
 }
 
-// Tells that a file could not be read, and why.
-fn unread(rt: &HostRuntime, error: &io::Error) -> u8 {
-    let status = failed(&mut rt.stderr(), fault_line(fault_of(error)));
-    if fault_of(error) == PlayFault::Read {
-        let causes = Causes::new();
-        causes.note(error);
-        causes.tell(rt);
+/// Reports that a file could not be read, by its name, and why.
+fn unread(rt: &HostRuntime, what: &str, file: &str, error: &io::Error) -> u8 {
+    let fault = fault_of(error);
+    if fault != PlayFault::Read {
+        return report_fault(&mut rt.stderr(), fault_line(fault));
     }
+    let kind = error.kind();
+    say(
+        rt,
+        format!(in rt.alloc(); "cannot read {what} '{file}': {kind}"),
+    );
+    let status = report_fault(&mut rt.stderr(), fault_line(fault));
+    let causes = Causes::new();
+    causes.note(error);
+    causes.tell(rt);
     status
 }
 
-// Prints a help text.
+/// Prints a help text.
 fn helped(rt: &HostRuntime, text: &str) -> u8 {
     match write_out(&mut rt.stdout(), text.as_bytes()) {
         Ok(()) => 0,
-        Err(_) => failed(&mut rt.stderr(), fault_line(PlayFault::Write)),
+        Err(_) => report_fault(&mut rt.stderr(), fault_line(PlayFault::Write)),
     }
 }
 
-// Prints what can be asked for.
+/// Prints what can be requested.
 fn misused(rt: &HostRuntime, text: String) -> u8 {
     let _ = rt.eprint(text);
     2
 }
 
-// How a directory is to be loaded.
+/// How a directory is to be loaded.
 #[derive(Clone, Copy)]
 struct Loading {
     skip: bool,
@@ -228,9 +238,9 @@ struct Loading {
     quiet: bool,
 }
 
-// Writes a script of a directory to standard output, or lists there what of it can't be loaded. The
-// script needs no more than is asked for, or if nothing is, than a core can have that is played
-// with flags. Ends with status 3 if something was left out.
+/// Writes a script of a directory to standard output, or lists there what of it can't be loaded.
+/// The script needs no more than is requested. If nothing is requested, it needs no more than a
+/// core that is played with flags can have. Returns 3 if something was left out.
 fn load_dir(rt: &HostRuntime, dir: &str, loading: &Loading, asked: AskedLimits) -> u8 {
     let causes = Causes::new();
     let most = asked.over(Limits {
@@ -240,7 +250,8 @@ fn load_dir(rt: &HostRuntime, dir: &str, loading: &Loading, asked: AskedLimits) 
     load_disk(rt, dir, &causes, loading, most)
 }
 
-// The same, within these limits.
+/// Writes a script of a directory that needs no more than these limits, or lists what of it can't
+/// be loaded. Returns the status to end with.
 fn load_disk<'a>(
     rt: &'a HostRuntime,
     dir: &'a str,
@@ -254,10 +265,12 @@ fn load_disk<'a>(
         return load_rest(rt, &disk, causes, loading, most);
     }
     let needs = needs_of(rt.alloc(), most, loading.set_id, &disk);
+    disk.begin();
     load_from(rt, &disk, causes, loading, needs)
 }
 
-// The same if what can't be loaded is left out or listed.
+/// Writes a script of a directory without what can't be loaded, or only lists that. Returns 3 if
+/// something was left out and no fault was reported.
 fn load_rest<'a>(
     rt: &'a HostRuntime,
     disk: &DiskSource<'a>,
@@ -275,7 +288,7 @@ fn load_rest<'a>(
     skipping.begin();
     let status = load_from(rt, &skipping, causes, loading, needs);
     let Ok(has_left_out) = skipping.tell() else {
-        return failed(&mut rt.stderr(), fault_line(PlayFault::Memory));
+        return report_fault(&mut rt.stderr(), fault_line(PlayFault::Memory));
     };
     if has_left_out && status == 0 {
         return 3;
@@ -283,8 +296,8 @@ fn load_rest<'a>(
     status
 }
 
-// Writes a script of a source, which needs this, to standard output, or none if the source is only
-// checked.
+/// Writes a script of a source, which needs this, to standard output. Writes none if the source is
+/// only checked.
 fn load_from<S: Source>(
     rt: &HostRuntime,
     source: &S,
@@ -293,7 +306,7 @@ fn load_from<S: Source>(
     needs: Result<Limits, Memory>,
 ) -> u8 {
     let Ok(needs) = needs else {
-        return failed(&mut rt.stderr(), fault_line(PlayFault::Memory));
+        return report_fault(&mut rt.stderr(), fault_line(PlayFault::Memory));
     };
     causes.forget();
     let status = if loading.check {
@@ -307,8 +320,8 @@ fn load_from<S: Source>(
     status
 }
 
-// Hands a script of a source, which needs this, to a writer. If standard output is a terminal,
-// progress is not shown: the script itself shows it.
+/// Hands a script of a source, which needs this, to a writer. If standard output is a terminal,
+/// progress is not shown, because the script itself shows it.
 fn load_to<S: Source, W: Write + Drop>(
     rt: &HostRuntime,
     source: &S,
@@ -333,7 +346,7 @@ fn load_to<S: Source, W: Write + Drop>(
     status
 }
 
-// How a directory is to be saved.
+/// How a directory is to be saved.
 #[derive(Clone, Copy)]
 struct Saving {
     set_id: bool,
@@ -341,8 +354,8 @@ struct Saving {
     quiet: bool,
 }
 
-// Makes a directory of the tree with which standard input ends, whose files are no larger than is
-// asked for.
+/// Makes a directory of the tree with which standard input ends. Its files are no larger than is
+/// requested.
 fn save_dir(rt: &HostRuntime, dir: &str, saving: &Saving, asked: AskedLimits) -> u8 {
     let alloc = rt.alloc();
     let causes = Causes::new();
@@ -355,17 +368,18 @@ fn save_dir(rt: &HostRuntime, dir: &str, saving: &Saving, asked: AskedLimits) ->
     let target = DiskTarget::new(rt, dir, &causes, !saving.no_owners);
     let mut target = ShownTarget::new(rt, alloc, target, screen(rt, saving.quiet));
     let mut replies = Noted::new(rt.stdin(), &causes);
-    let status = save_status(alloc, allowed, &mut replies, &mut target, &mut rt.stderr());
+    let mut errors = Explained::of_replies(rt);
+    let status = save_status(alloc, allowed, &mut replies, &mut target, &mut errors);
     if status == 1 {
         causes.tell(rt);
     }
     status
 }
 
-// A core that grants calls by this rule, on which the script in a file was played first, if there
-// is one. It has the limits that are asked for, and else those that are needed or, if they are
-// greater, those that this script needs. If that could not be, it was reported, and the status to
-// end with is returned.
+/// Returns a core that grants calls by this rule, on which the script in a file was played first,
+/// if there is one. It has the limits that are requested. Without a request it has those that are
+/// needed or, if they are greater, those that this script needs. On failure, that was reported, and
+/// the error is the status to end with.
 fn core_for(
     rt: &HostRuntime,
     rule: Rule,
@@ -374,27 +388,39 @@ fn core_for(
     after: Option<String>,
 ) -> Result<Core, u8>
     ensures none_live { IfOk result (λ core. NoneIsLive core.state) }
-    ensures base { IfOk result (λ core. core.state ≡ at_base core.state.rule core.state.limits core.state.base) }
+    ensures base { IfOk result
+        (λ core. core.state ≡ at_base core.state.rule core.state.limits core.state.base) }
 {
     let alloc = rt.alloc();
     let seed = random_number(rt);
-    let begun = match after {
-        None => core_after(alloc, rule, asked.over(needed), seed, None),
+    let begun = match &after {
+        None => core_with_setup(alloc, rule, asked.over(needed), seed, None),
         Some(file) => match read_file(rt, file.as_str(), u64::MAX) {
             Ok(script) => {
                 let limits = asked.over(raised_for(needed, script.as_slice()));
-                core_after(alloc, rule, limits, seed, Some(script.as_slice()))
+                core_with_setup(alloc, rule, limits, seed, Some(script.as_slice()))
             }
-            Err(error) => return Err(unread(rt, &error)),
+            Err(error) => return Err(unread(rt, "the script", file.as_str(), &error)),
         },
     };
     match begun {
         Ok(core) => Ok(core),
-        Err(fault) => Err(after_failed(alloc, &mut rt.stderr(), fault)),
+        Err(fault) => {
+            explain_setup(rt, after, fault);
+            Err(report_setup_fault(alloc, &mut rt.stderr(), fault))
+        }
     }
 }
 
-// A number that nobody can guess; 0 if the system has none to give.
+/// Says which line of the script in a file could not be played first.
+fn explain_setup(rt: &HostRuntime, after: Option<String>, fault: SetupFault) {
+    if let (Some(file), SetupFault::Script(line)) = (after, fault) {
+        let why = "it is no request, is refused, fails or waits, or leaves a transaction live";
+        say(rt, format!(in rt.alloc(); "{file}:{line}: {why}"));
+    }
+}
+
+/// Returns a number that nobody can guess, or 0 if the system has none to give.
 fn random_number(rt: &HostRuntime) -> u64 {
     let mut bytes = [0; 8];
     match rt.fill_bytes(&mut bytes) {
@@ -403,8 +429,8 @@ fn random_number(rt: &HostRuntime) -> u64 {
     }
 }
 
-// The screen that shows progress: standard error, if that is a terminal, unless nothing is to be
-// shown.
+/// Returns the screen that shows progress: standard error, if it is a terminal. Returns `None` if
+/// it is no terminal, or if nothing is to be shown.
 fn screen(rt: &HostRuntime, quiet: bool) -> Option<Stderr> {
     let errors = rt.stderr();
     if quiet || !errors.is_terminal() {
@@ -413,7 +439,7 @@ fn screen(rt: &HostRuntime, quiet: bool) -> Option<Stderr> {
     Some(errors)
 }
 
-// The bytes of a file, so many at most.
+/// Returns the bytes of a file, but at most this many.
 fn read_file(rt: &HostRuntime, file: &str, most: u64) -> io::Result<Vec<u8>> {
     let mut bytes = Vec::new(rt.alloc());
     File::open(rt, file).and_then(|file| file.take(most).read_to_end(&mut bytes))?;

@@ -1,15 +1,15 @@
 // No clause states this: the line that reports a fault, and the outcome of jobs.
 use crate::status::{jobs_status, play_status};
-use ft_after::core_after;
 use ft_core::{Limits, Rule};
 use ft_jobs::Pace;
 use ft_record::Recorded;
+use ft_script::core_with_setup;
 use std::alloc::Global;
 use std::io;
 use std::io::{ErrorKind, Read, Write};
 use std::test::Fail;
 
-// Gives a text, and then fails.
+/// A reader that gives a text, and then fails.
 #[derive(Drop)]
 struct Failing<'a> {
     text: &'a [u8],
@@ -24,7 +24,7 @@ impl Read for Failing<'_> {
     }
 }
 
-// Takes one byte a call, as long as it has room, and then fails.
+/// A writer that takes one byte a call as long as it has room, and then fails.
 #[derive(Drop)]
 struct Narrow {
     held: Vec<u8>,
@@ -32,6 +32,7 @@ struct Narrow {
 }
 
 impl Narrow {
+    /// Returns a writer with this much room.
     fn new(alloc: Global, room: usize) -> Narrow {
         Narrow {
             held: Vec::new(alloc),
@@ -57,8 +58,8 @@ impl Write for Narrow {
     }
 }
 
-// Whether the script of a reader ends with this status and these replies, and this is what the
-// writer of errors then holds.
+/// Returns whether the script of a reader ends with this status and these replies, and the writer
+/// of errors then holds this text.
 fn ends_with<R: Read>(
     alloc: Global,
     reader: &mut R,
@@ -67,7 +68,7 @@ fn ends_with<R: Read>(
     held: &str,
 ) -> bool {
     let mut replies = Narrow::new(alloc, 100);
-    let Ok(core) = core_after(alloc, Rule::Profile, Limits::default(), 1, None) else {
+    let Ok(core) = core_with_setup(alloc, Rule::Profile, Limits::default(), 1, None) else {
         return false;
     };
     let status = play_status(alloc, core, reader, &mut replies, errors);
@@ -76,6 +77,7 @@ fn ends_with<R: Read>(
         && errors.held.as_slice() == held.as_bytes()
 }
 
+/// Checks the statuses and the fault lines of scripts.
 #[test]
 fn status_and_fault_line(rt: HostRuntime) -> Result<(), Fail> {
     let alloc = rt.alloc();
@@ -111,12 +113,14 @@ fn status_and_fault_line(rt: HostRuntime) -> Result<(), Fail> {
     Ok(())
 }
 
-// One job, which has one outcome.
+/// One job, which has one outcome.
 const ONE_JOB: &[u8] = b"job a\nmkdir /a\nlist /\ncommit\n";
 
 const ONE_OUTCOME: &str =
-    "job a 1 committed\nhistory 2\ncall 2 1 mkdir /a = ok\ncall 3 1 list / = ok 1 a/\ntree 3\ndir 1\ndir 2\nedge 1 a 2\n";
+    "job a 1 committed\nhistory 2\ncall 2 1 mkdir /a = ok\ncall 3 1 list / = ok 1 a/\ntree 3\n\
+        dir 1\ndir 2\nedge 1 a 2\n";
 
+/// Checks the text of the outcome of jobs.
 #[test]
 fn jobs_program_text(rt: HostRuntime) -> Result<(), Fail> {
     let alloc = rt.alloc();
@@ -151,6 +155,7 @@ fn jobs_program_text(rt: HostRuntime) -> Result<(), Fail> {
     Ok(())
 }
 
+/// Checks the status of jobs whose output fails.
 #[test]
 fn output_that_fails(rt: HostRuntime) -> Result<(), Fail> {
     let alloc = rt.alloc();

@@ -6,10 +6,10 @@ use std::io::Read;
 use std::os::unix::fs::PermissionsExt;
 use std::str;
 
-// How many bytes of names are read at once.
+/// How many bytes of names are read at once.
 const NAMES: usize = 4_096;
 
-// The mode of a directory that is emptied.
+/// The mode of a directory that is emptied.
 const EMPTIED: u32 = 0o700;
 
 /// The room in which a directory on disk is removed, taken before there is anything to remove.
@@ -45,10 +45,10 @@ impl Removal {
         }
     }
 
-    // Empties the directory at the path, up to one in it that is not empty: then the path is that
-    // of this one, and it returns false. None if that can't be done. A symbolic link is removed,
-    // and never gone through. The directory may have its mode already, by which nobody may empty
-    // it.
+    /// Empties the directory at the path, and returns true. At a directory in it that is not empty,
+    /// it stops: then the path becomes the path of that one, and it returns false. Returns `None`
+    /// if that can't be done. A symbolic link is removed, and never followed. The directory may
+    /// have its mode already, by which nobody may empty it.
     fn empty<F: Files>(&mut self, files: &F) -> Option<bool> {
         let place = text_of(self.path.as_slice())?;
         if !is_folder(files, place) {
@@ -68,8 +68,8 @@ impl Removal {
         None
     }
 
-    // Removes the directory at the path, which is empty, and goes back to the one that it is in.
-    // Returns whether there is more to do: the path of the whole has so many bytes.
+    /// Removes the empty directory at the path, and goes back to the directory around it. Returns
+    /// whether there is more to do: the path of the whole has this many bytes.
     fn leave<F: Files>(&mut self, files: &F, top: usize) -> bool {
         let is_removed = match text_of(self.path.as_slice()) {
             Some(path) => files.remove_dir(path).is_ok(),
@@ -85,8 +85,8 @@ impl Removal {
     }
 }
 
-// Removes what has these names in the directory at a path, up to a directory that is not empty, as
-// `empty` does.
+/// Removes what has these names in the directory at a path, up to a directory that is not empty, as
+/// `empty` does.
 fn remove_names<F: Files>(files: &F, path: &mut Vec<u8>, names: &[u8]) -> Option<bool> {
     for name in names.split(|byte| *byte == 0) {
         if name.is_empty() || name == b".".as_slice() || name == b"..".as_slice() {
@@ -104,7 +104,7 @@ fn remove_names<F: Files>(files: &F, path: &mut Vec<u8>, names: &[u8]) -> Option
     Some(true)
 }
 
-// Whether a directory is at a path, and no symbolic link that leads to one.
+/// Returns whether a directory is at a path, and not a symbolic link that leads to one.
 fn is_folder<F: Files>(files: &F, place: &str) -> bool {
     match files.symlink_metadata(place) {
         Ok(metadata) => metadata.is_dir(),
@@ -112,7 +112,7 @@ fn is_folder<F: Files>(files: &F, place: &str) -> bool {
     }
 }
 
-// A path as text.
+/// Returns a path as text.
 fn text_of(path: &[u8]) -> Option<&str> {
     str::from_utf8(path).ok()
 }

@@ -1,22 +1,24 @@
 // A directory on disk of which what can't be loaded is left out.
 use crate::causes::{Causes, Noted};
 use crate::disk_source::DiskSource;
-use ft_copy::{CopyLimits, FileFacts, Found, Leading, Listed, Listing, Opened, Source, Trouble};
+use ft_copy::{
+    CopyFault, CopyLimits, FileFacts, FolderEntry, Found, Leading, Listing, Opened, Source,
+};
 use ft_path::LONGEST_PATH;
 use ft_script::write_out;
-use ft_words::Coded;
+use ft_words::PercentCoded;
 use std::alloc::AllocError;
 use std::cell::Cell;
 use std::fs::File;
 
-// The reasons to leave something out, in the order in which they are reported at the end.
-const REASONS: [Trouble; 6] = [
-    Trouble::Special,
-    Trouble::TooLarge,
-    Trouble::TooManyLinks,
-    Trouble::PathTooLong,
-    Trouble::BadName,
-    Trouble::Read,
+/// The reasons to leave something out, in the order in which they are reported at the end.
+const REASONS: [CopyFault; 6] = [
+    CopyFault::Special,
+    CopyFault::TooLarge,
+    CopyFault::TooManyLinks,
+    CopyFault::PathTooLong,
+    CopyFault::BadName,
+    CopyFault::Read,
 ];
 
 /// A directory on disk, which reports what can't be loaded as something special, and leaves that
@@ -33,7 +35,7 @@ pub struct SkippingSource<'a, 'b> {
     // whether it is reported and counted
     is_told: Cell<bool>,
     // why what was looked at last can't be loaded
-    why: Cell<Trouble>,
+    why: Cell<CopyFault>,
     // how much was left out for each reason
     counts: [Cell<u64>; 6],
 }
@@ -54,7 +56,7 @@ impl<'a, 'b> SkippingSource<'a, 'b> {
             limits,
             is_listed,
             is_told: Cell::new(false),
-            why: Cell::new(Trouble::Special),
+            why: Cell::new(CopyFault::Special),
             counts: [
                 Cell::new(0),
                 Cell::new(0),
@@ -68,6 +70,7 @@ impl<'a, 'b> SkippingSource<'a, 'b> {
 
     /// From now on what is left out is reported and counted.
     pub fn begin(&self) {
+        self.disk.begin();
         self.is_told.set(true);
     }
 
@@ -90,7 +93,7 @@ impl<'a, 'b> SkippingSource<'a, 'b> {
         Ok(true)
     }
 
-    // Writes a line to the stream that reports what is left out.
+    /// Writes a line to the stream that reports what is left out.
     fn write(&self, line: &str) {
         let _ = if self.is_listed {
             write_out(&mut self.rt.stdout(), line.as_bytes())
@@ -99,8 +102,8 @@ impl<'a, 'b> SkippingSource<'a, 'b> {
         };
     }
 
-    // Tells of something that is left out, and counts it.
-    fn leave_out(&self, path: &[u8], why: Trouble) -> Result<(), AllocError> {
+    /// Reports something that is left out, and counts it.
+    fn leave_out(&self, path: &[u8], why: CopyFault) -> Result<(), AllocError> {
         self.causes.forget();
         if !self.is_told.get() {
             return Ok(());
@@ -110,7 +113,7 @@ impl<'a, 'b> SkippingSource<'a, 'b> {
                 count.set(count.get().saturating_add(1));
             }
         }
-        let path = Coded(path);
+        let path = PercentCoded(path);
         let line = if self.is_listed {
             format!(in self.rt.alloc(); "{why} {path}\n")?
         } else {
@@ -120,8 +123,8 @@ impl<'a, 'b> SkippingSource<'a, 'b> {
         Ok(())
     }
 
-    // Looks at a place, and fails for the reason why what is there can't be loaded.
-    fn try_out(&self, path: &[u8], node: u64) -> Result<Found, Trouble> {
+    /// Looks at a place. Fails for the reason why what is there can't be loaded.
+    fn try_out(&self, path: &[u8], node: u64) -> Result<Found, CopyFault> {
         let found = self.disk.look(path, node)?;
         match found {
             Found::Folder(_) => {
@@ -130,7 +133,7 @@ impl<'a, 'b> SkippingSource<'a, 'b> {
             Found::File(file) => {
                 self.judge(file.facts)?;
                 if file.facts.size > self.limits.file_size {
-                    return Err(Trouble::TooLarge);
+                    return Err(CopyFault::TooLarge);
                 }
                 self.disk.open(path, node)?;
             }
@@ -138,21 +141,21 @@ impl<'a, 'b> SkippingSource<'a, 'b> {
                 self.judge(facts)?;
                 self.disk.read_link(path, node)?;
             }
-            Found::Special => return Err(Trouble::Special),
+            Found::Special => return Err(CopyFault::Special),
         }
         Ok(found)
     }
 
-    // Fails if something has too many names.
-    fn judge(&self, facts: FileFacts) -> Result<(), Trouble> {
+    /// Fails if something has too many names.
+    fn judge(&self, facts: FileFacts) -> Result<(), CopyFault> {
         if facts.links > self.limits.links {
-            return Err(Trouble::TooManyLinks);
+            return Err(CopyFault::TooManyLinks);
         }
         Ok(())
     }
 
-    // Leaves out a name of a directory by which the path is too long, and returns whether it does.
-    fn is_too_long(&self, path: &[u8], listed: &Listed) -> Result<bool, Trouble> {
+    /// Leaves out a name of a directory if it makes the path too long, and returns whether it does.
+    fn is_too_long(&self, path: &[u8], listed: &FolderEntry) -> Result<bool, CopyFault> {
         let name = listed.name.as_bytes();
         if path.len().saturating_add(name.len()) < LONGEST_PATH {
             return Ok(false);
@@ -160,7 +163,7 @@ impl<'a, 'b> SkippingSource<'a, 'b> {
         let mut child = Vec::from_slice(self.rt.alloc(), path)?;
         child.push(b'/')?;
         child.extend_from_slice(name)?;
-        self.leave_out(child.as_slice(), Trouble::PathTooLong)?;
+        self.leave_out(child.as_slice(), CopyFault::PathTooLong)?;
         Ok(true)
     }
 }
@@ -168,7 +171,7 @@ impl<'a, 'b> SkippingSource<'a, 'b> {
 impl<'a> Source for SkippingSource<'a, '_> {
     type File = Noted<'a, File>;
 
-    fn names(&self, path: &[u8], node: u64) -> Result<Listing, Trouble> {
+    fn names(&self, path: &[u8], node: u64) -> Result<Listing, CopyFault> {
         let listing = self.disk.names(path, node)?;
         let mut names = Vec::new(self.rt.alloc());
         for listed in listing.names {
@@ -182,12 +185,12 @@ impl<'a> Source for SkippingSource<'a, '_> {
         })
     }
 
-    fn look(&self, path: &[u8], node: u64) -> Result<Found, Trouble> {
+    fn look(&self, path: &[u8], node: u64) -> Result<Found, CopyFault> {
         if path.is_empty() {
             return self.disk.look(path, node);
         }
         match self.try_out(path, node) {
-            Err(Trouble::Memory) => Err(Trouble::Memory),
+            Err(CopyFault::Memory) => Err(CopyFault::Memory),
             Err(why) => {
                 self.why.set(why);
                 Ok(Found::Special)
@@ -196,15 +199,15 @@ impl<'a> Source for SkippingSource<'a, '_> {
         }
     }
 
-    fn open(&self, path: &[u8], node: u64) -> Result<Opened<Noted<'a, File>>, Trouble> {
+    fn open(&self, path: &[u8], node: u64) -> Result<Opened<Noted<'a, File>>, CopyFault> {
         self.disk.open(path, node)
     }
 
-    fn read_link(&self, path: &[u8], node: u64) -> Result<Leading, Trouble> {
+    fn read_link(&self, path: &[u8], node: u64) -> Result<Leading, CopyFault> {
         self.disk.read_link(path, node)
     }
 
-    fn omits(&self, path: &[u8]) -> Result<bool, Trouble> {
+    fn omits(&self, path: &[u8]) -> Result<bool, CopyFault> {
         self.leave_out(path, self.why.get())?;
         Ok(true)
     }

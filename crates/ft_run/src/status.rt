@@ -2,7 +2,7 @@
 ghost use Rattle.std.specs.Prelude.{◌≡◌, ◌⊎◌, true, false};
 ghost use Rattle.std.specs.Io.KnownBytes.{Keeps};
 ghost use Rattle.ft_dot.specs.Drawn.{Draws, StopsDrawing};
-ghost use Rattle.ft_outcome.specs.Runs.{RunsPlan, StopsPlan};
+ghost use Rattle.ft_job_text.specs.Runs.{RunsPlan, StopsPlan};
 ghost use Rattle.ft_run.specs.FaultLines.{TellsLine, after_line, fault_line, run_fault_line, save_line, stopped_line};
 ghost use Rattle.ft_script.specs.Runs.{AnswersFreely, PlaysAll, StopsAt, WritesFront};
 ghost use Rattle.ft_core.specs.Living.{NoneIsLive};
@@ -11,18 +11,17 @@ ghost use Rattle.ft_load.specs.Loads.{Loads, StopsLoad};
 ghost use Rattle.ft_save.specs.Saves.{IsLeft, Saves, StopsSave};
 
 use crate::faults::{fault_line, run_fault_line, trouble_name};
-use ft_after::AfterFault;
-use ft_copy::{CopyLimits, Source, Stopped, Target};
+use ft_copy::{CopyLimits, CopyStop, Source, Target};
 use ft_core::{Core, Limits};
 use ft_dot::draw;
+use ft_job_text::{RunFault, run_plan};
 use ft_jobs::Pace;
 use ft_load::load;
-use ft_outcome::{RunFault, run_plan};
 use ft_record::Recorded;
 use ft_save::{SaveFault, save};
-use ft_script::{PlayFault, play, write_out};
-use ft_shown::ShownSource;
-use ft_words::Data;
+use ft_screen::ShownSource;
+use ft_script::{PlayFault, SetupFault, play, write_out};
+use ft_words::CodedArgument;
 use std::alloc::Global;
 use std::io::{Read, Write};
 use std::sync::Wait;
@@ -40,16 +39,18 @@ pub fn play_status<R: Read, W: Write, E: Write>(
 ) -> u8
     ensures status { (result ≡ 0) ⊎ (result ≡ 1) }
     ensures quiet { result ≡ 0 → Keeps (E.contents errors.old) (E.contents errors.new) }
-    ensures ok { result ≡ 0 → (new : State) × PlaysAll AnswersFreely (R.remaining reader.old) (R.remaining reader.new)
+    ensures ok { result ≡ 0 → (new : State)
+        × PlaysAll AnswersFreely (R.remaining reader.old) (R.remaining reader.new)
         (W.contents writer.old) (W.contents writer.new) core.state new }
-    ensures fault { result ≡ 1 → (fault : PlayFault) × (new : State) × StopsAt AnswersFreely fault (R.remaining reader.old) (R.remaining reader.new)
+    ensures fault { result ≡ 1 → (fault : PlayFault) × (new : State)
+        × StopsAt AnswersFreely fault (R.remaining reader.old) (R.remaining reader.new)
         (W.contents writer.old) (W.contents writer.new) core.state new
         × WritesFront (E.contents errors.old) (E.contents errors.new) (fault_line fault) }
 {
     let mut core = core;
     match play(alloc, reader, writer, &mut core) {
         Ok(()) => 0,
-        Err(fault) => failed(errors, fault_line(fault)),
+        Err(fault) => report_fault(errors, fault_line(fault)),
     }
 }
 
@@ -72,7 +73,7 @@ pub fn dot_status<R: Read, W: Write, E: Write>(
 {
     match draw(alloc, reader, writer) {
         Ok(()) => 0,
-        Err(fault) => failed(errors, fault_line(fault)),
+        Err(fault) => report_fault(errors, fault_line(fault)),
     }
 }
 
@@ -92,21 +93,25 @@ pub fn jobs_status<R: Threads + Wait + Clock + Sync, S: Write + Send + Drop, W: 
 ) -> u8
     requires { NoneIsLive core.state }
     ensures status { (result ≡ 0) ⊎ (result ≡ 1) ⊎ (result ≡ 3) }
-    ensures quiet { (result ≡ 0) ⊎ (result ≡ 3) → Keeps (E.contents errors.old) (E.contents errors.new) }
-    ensures ok { result ≡ 0 → RunsPlan true core.state plan.now (W.contents writer.old) (W.contents writer.new) }
-    ensures unmet { result ≡ 3 → RunsPlan false core.state plan.now (W.contents writer.old) (W.contents writer.new) }
-    ensures fault { result ≡ 1 → (fault : RunFault) × StopsPlan fault core.state plan.now (W.contents writer.old) (W.contents writer.new)
+    ensures quiet { (result ≡ 0) ⊎ (result ≡ 3)
+        → Keeps (E.contents errors.old) (E.contents errors.new) }
+    ensures ok { result ≡ 0 → RunsPlan true core.state plan.now (W.contents writer.old)
+        (W.contents writer.new) }
+    ensures unmet { result ≡ 3
+        → RunsPlan false core.state plan.now (W.contents writer.old) (W.contents writer.new) }
+    ensures fault { result ≡ 1 → (fault : RunFault)
+        × StopsPlan fault core.state plan.now (W.contents writer.old) (W.contents writer.new)
         × WritesFront (E.contents errors.old) (E.contents errors.new) (run_fault_line fault) }
 {
     match run_plan(rt, alloc, core, plan, pace, screen, writer) {
         Ok(is_met) if is_met => 0,
         Ok(_) => 3,
-        Err(fault) => failed(errors, run_fault_line(fault)),
+        Err(fault) => report_fault(errors, run_fault_line(fault)),
     }
 }
 
 /// Reports a fault by its line, and returns the status that it ends with.
-pub fn failed<E: Write>(errors: &mut E, line: &str) -> u8
+pub fn report_fault<E: Write>(errors: &mut E, line: &str) -> u8
     ensures status { result ≡ 1 }
     ensures line { WritesFront (E.contents errors.old) (E.contents errors.new) line.now }
 {
@@ -116,18 +121,18 @@ pub fn failed<E: Write>(errors: &mut E, line: &str) -> u8
 
 /// Reports why a script was not played first, and returns the status that it ends with. If there is
 /// no memory for the line, that is reported.
-pub fn after_failed<E: Write>(alloc: Global, errors: &mut E, fault: AfterFault) -> u8
+pub fn report_setup_fault<E: Write>(alloc: Global, errors: &mut E, fault: SetupFault) -> u8
     ensures status { result ≡ 1 }
     ensures line { TellsLine (E.contents errors.old) (E.contents errors.new) (after_line fault) }
 {
     let number = match fault {
-        AfterFault::Memory => return failed(errors, fault_line(PlayFault::Memory)),
-        AfterFault::BadLimits => return failed(errors, "fault: BadLimits\n"),
-        AfterFault::Script(number) => number,
+        SetupFault::Memory => return report_fault(errors, fault_line(PlayFault::Memory)),
+        SetupFault::BadLimits => return report_fault(errors, "fault: BadLimits\n"),
+        SetupFault::Script(number) => number,
     };
     match format!(in alloc; "fault: Script {number}\n") {
-        Ok(line) => failed(errors, line.as_str()),
-        Err(_) => failed(errors, fault_line(PlayFault::Memory)),
+        Ok(line) => report_fault(errors, line.as_str()),
+        Err(_) => report_fault(errors, fault_line(PlayFault::Memory)),
     }
 }
 
@@ -147,8 +152,11 @@ pub fn load_status<R: Clock, S: Source, V: Write + Drop, W: Write, E: Write>(
 ) -> (W, u8)
     ensures status { (result.1 ≡ 0) ⊎ (result.1 ≡ 1) }
     ensures quiet { result.1 ≡ 0 → Keeps (E.contents errors.old) (E.contents errors.new) }
-    ensures ok { result.1 ≡ 0 → Loads limits set_id (S.tells source.now) (W.contents writer) (W.contents result.0) }
-    ensures fault { result.1 ≡ 1 → (stopped : Stopped) × StopsLoad limits set_id (S.tells source.now) stopped (W.contents writer) (W.contents result.0)
+    ensures ok { result.1 ≡ 0
+        → Loads limits set_id (S.tells source.now) (W.contents writer) (W.contents result.0) }
+    ensures fault { result.1 ≡ 1 → (stopped : CopyStop)
+        × StopsLoad limits set_id (S.tells source.now) stopped (W.contents writer)
+        (W.contents result.0)
         × TellsLine (E.contents errors.old) (E.contents errors.new) (stopped_line stopped) }
 {
     let shown = ShownSource::new(rt, alloc, source, screen);
@@ -156,7 +164,7 @@ pub fn load_status<R: Clock, S: Source, V: Write + Drop, W: Write, E: Write>(
     shown.done();
     let status = match loaded {
         Ok(()) => 0,
-        Err(stopped) => stopped_failed(alloc, errors, &stopped),
+        Err(stopped) => report_stop(alloc, errors, &stopped),
     };
     (writer, status)
 }
@@ -173,39 +181,43 @@ pub fn save_status<R: Read, T: Target, E: Write>(
 ) -> u8
     ensures status { (result ≡ 0) ⊎ (result ≡ 1) }
     ensures quiet { result ≡ 0 → Keeps (E.contents errors.old) (E.contents errors.new) }
-    ensures ok { result ≡ 0 → Saves limits (R.remaining reader.old) (R.remaining reader.new) T.does target.old target.new }
+    ensures ok { result ≡ 0 → Saves limits (R.remaining reader.old) (R.remaining reader.new) T.does
+        target.old target.new }
     ensures left { result ≡ 1 → IsLeft T.does T.fails target.old target.new }
-    ensures fault { result ≡ 1 → (fault : SaveFault) × StopsSave limits T.does T.fails fault (R.remaining reader.old) (R.remaining reader.new) target.old target.new
+    ensures fault { result ≡ 1 → (fault : SaveFault)
+        × StopsSave limits T.does T.fails fault (R.remaining reader.old) (R.remaining reader.new)
+        target.old target.new
         × TellsLine (E.contents errors.old) (E.contents errors.new) (save_line fault) }
 {
     match save(alloc, limits, reader, target) {
         Ok(()) => 0,
-        Err(fault) => save_failed(alloc, errors, &fault),
+        Err(fault) => report_save_fault(alloc, errors, &fault),
     }
 }
 
-// Tells why nothing was saved.
-fn save_failed<E: Write>(alloc: Global, errors: &mut E, fault: &SaveFault) -> u8
+/// Reports why nothing was saved.
+fn report_save_fault<E: Write>(alloc: Global, errors: &mut E, fault: &SaveFault) -> u8
     ensures status { result ≡ 1 }
     ensures line { TellsLine (E.contents errors.old) (E.contents errors.new) (save_line fault.now) }
 {
     match fault {
-        SaveFault::Replies(fault) => failed(errors, fault_line(*fault)),
-        SaveFault::NoTree => failed(errors, "fault: NoTree\n"),
-        SaveFault::Stopped(stopped) => stopped_failed(alloc, errors, stopped),
+        SaveFault::Replies(fault) => report_fault(errors, fault_line(*fault)),
+        SaveFault::NoTree => report_fault(errors, "fault: NoTree\n"),
+        SaveFault::CopyStop(stopped) => report_stop(alloc, errors, stopped),
     }
 }
 
-// Reports why a copy was not made, and at which path. If there is not enough memory for the line,
-// that is reported.
-fn stopped_failed<E: Write>(alloc: Global, errors: &mut E, stopped: &Stopped) -> u8
+/// Reports why a copy was not made, and at which path. If there is not enough memory for the line,
+/// that is reported.
+fn report_stop<E: Write>(alloc: Global, errors: &mut E, stopped: &CopyStop) -> u8
     ensures status { result ≡ 1 }
-    ensures line { TellsLine (E.contents errors.old) (E.contents errors.new) (stopped_line stopped.now) }
+    ensures line { TellsLine (E.contents errors.old) (E.contents errors.new)
+        (stopped_line stopped.now) }
 {
     let name = trouble_name(stopped.trouble);
-    let path = Data(stopped.path.as_slice());
+    let path = CodedArgument(stopped.path.as_slice());
     match format!(in alloc; "fault: {name}{path}\n") {
-        Ok(line) => failed(errors, line.as_str()),
-        Err(_) => failed(errors, fault_line(PlayFault::Memory)),
+        Ok(line) => report_fault(errors, line.as_str()),
+        Err(_) => report_fault(errors, fault_line(PlayFault::Memory)),
     }
 }

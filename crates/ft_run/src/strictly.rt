@@ -9,13 +9,13 @@ ghost use Rattle.ft_run.specs.FaultLines.{TellsLine, fault_line, shown_of, stric
 ghost use Rattle.ft_strict.specs.Strict.{AnswersStrictly};
 
 use crate::faults::fault_line;
-use crate::status::failed;
+use crate::status::report_fault;
 use ft_core::Core;
 use ft_script::{FailedLine, PlayFault, StrictFault, play_strictly, write_out};
 use std::alloc::{AllocError, Global};
 use std::io::{Read, Write};
 
-// How many bytes of a line are shown.
+/// How many bytes of a line are shown.
 const LONGEST_SHOWN: usize = 200;
 
 /// Runs a strict script on a core, and returns the status to end with: 0; 1 after a fault of
@@ -30,28 +30,32 @@ pub fn play_strictly_status<R: Read, W: Write, E: Write>(
 ) -> u8
     ensures status { (result ≡ 0) ⊎ (result ≡ 1) ⊎ (result ≡ 3) }
     ensures quiet { result ≡ 0 → Keeps (E.contents errors.old) (E.contents errors.new) }
-    ensures ok { result ≡ 0 → (new : State) × PlaysAll AnswersStrictly (R.remaining reader.old) (R.remaining reader.new)
+    ensures ok { result ≡ 0 → (new : State)
+        × PlaysAll AnswersStrictly (R.remaining reader.old) (R.remaining reader.new)
         (W.contents writer.old) (W.contents writer.new) core.state new }
-    ensures fault { result ≡ 1 → (fault : PlayFault) × (new : State) × StopsAt AnswersStrictly fault (R.remaining reader.old) (R.remaining reader.new)
+    ensures fault { result ≡ 1 → (fault : PlayFault) × (new : State)
+        × StopsAt AnswersStrictly fault (R.remaining reader.old) (R.remaining reader.new)
         (W.contents writer.old) (W.contents writer.new) core.state new
         × WritesFront (E.contents errors.old) (E.contents errors.new) (fault_line fault) }
-    ensures failed { result ≡ 3 → (failed : Failed) × (new : State) × StopsStrictly (Line failed) (R.remaining reader.old) (R.remaining reader.new)
+    ensures failed { result ≡ 3 → (failed : Failed) × (new : State)
+        × StopsStrictly (Line failed) (R.remaining reader.old) (R.remaining reader.new)
         (W.contents writer.old) (W.contents writer.new) core.state new
         × TellsLine (E.contents errors.old) (E.contents errors.new) (strict_line failed) }
 {
     let mut core = core;
     match play_strictly(alloc, reader, writer, &mut core) {
         Ok(()) => 0,
-        Err(StrictFault::Play(fault)) => failed(errors, fault_line(fault)),
-        Err(StrictFault::Line(line)) => line_failed(alloc, errors, &line),
+        Err(StrictFault::Play(fault)) => report_fault(errors, fault_line(fault)),
+        Err(StrictFault::Line(line)) => report_line(alloc, errors, &line),
     }
 }
 
-// Reports which line did not do what it requests, and returns the status that it ends with. If
-// there is not enough memory for that, that is reported.
-fn line_failed<E: Write>(alloc: Global, errors: &mut E, failed: &FailedLine) -> u8
+/// Reports which line did not do what it requests, and returns the status to end with. If there is
+/// not enough memory for that, that is reported.
+fn report_line<E: Write>(alloc: Global, errors: &mut E, failed: &FailedLine) -> u8
     ensures status { result ≡ 3 }
-    ensures line { TellsLine (E.contents errors.old) (E.contents errors.new) (strict_line failed.now) }
+    ensures line { TellsLine (E.contents errors.old) (E.contents errors.new)
+        (strict_line failed.now) }
 {
     let _ = match strict_line(alloc, failed) {
         Ok(text) => write_out(errors, text.as_slice()),
@@ -60,7 +64,7 @@ fn line_failed<E: Write>(alloc: Global, errors: &mut E, failed: &FailedLine) -> 
     3
 }
 
-// The line that reports it.
+/// Returns the line that reports a failed line.
 fn strict_line(alloc: Global, failed: &FailedLine) -> Result<Vec<u8>, AllocError>
     ensures { IfOk result (λ text. text.items ≡ strict_line failed.now) }
 {
@@ -73,7 +77,8 @@ fn strict_line(alloc: Global, failed: &FailedLine) -> Result<Vec<u8>, AllocError
     Ok(text)
 }
 
-// A line as it is shown: without the one carriage return at its end, and not too much of it.
+/// Returns a line as it is shown: without the one carriage return at its end, and cut if it is
+/// long.
 fn shown(line: &[u8]) -> &[u8]
     ensures { result.now ≡ shown_of line.now }
 {

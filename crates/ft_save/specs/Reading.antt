@@ -4,8 +4,8 @@ use Rattle.std.specs.List.{slice_get}
 use Rattle.std.specs.Option.{option_map_or}
 use Rattle.std.specs.Str.{bytes_eq}
 use Rattle.percent_encoding.specs.Percent.{percent_decode}
-use Rattle.ft_words.specs.Spelling.{integer_of, lines_of, words_of, number_of, short_number_of}
-use Rattle.ft_words.specs.Modes.{mode_of}
+use Rattle.ft_words.specs.Spelling.{parse_i64, lines_of, words_of, parse_u64, parse_u32}
+use Rattle.ft_words.specs.Modes.{parse_mode}
 use Rattle.ft_words.specs.Calls.{both, last_word, only, three}
 use Rattle.ft_dot.specs.Reading.{behind}
 use Rattle.ft_save.specs.declared.row.Row.{Row}
@@ -17,17 +17,17 @@ use Rattle.ft_path.specs.Name.{has_nul}
 
 -- `tree N`
 abbrev pub count_of : List (List ℕ) → Option ℕ
-count_of words = option_and_then (only number_of) (behind (codes "tree") words)
+count_of words = option_and_then (only parse_u64) (behind (codes "tree") words)
 
 -- ---- rows, by the words behind their names
 
 -- `NODE`
 abbrev pub folder_of : List (List ℕ) → Option Row
-folder_of words = option_map Folder (only number_of words)
+folder_of words = option_map Folder (only parse_u64 words)
 
 -- `FOLDER NAME NODE`
 abbrev pub edge_of : List (List ℕ) → Option Row
-edge_of words = option_map (λ e. Edge e.0 (percent_decode e.1) e.2) (three number_of Some (only number_of) words)
+edge_of words = option_map (λ e. Edge e.0 (percent_decode e.1) e.2) (three parse_u64 Some (only parse_u64) words)
 
 -- a file has as many bytes as its row says
 abbrev pub sized : ℕ → ℕ → List ℕ → Option Row
@@ -35,7 +35,7 @@ sized node size bytes = if length bytes == size then Some (File node Regular byt
 
 -- `NODE SIZE DATA`; the data may be absent with its space
 abbrev pub file_of : List (List ℕ) → Option Row
-file_of words = option_and_then (λ f. sized f.0 f.1 (percent_decode f.2)) (three number_of number_of last_word words)
+file_of words = option_and_then (λ f. sized f.0 f.1 (percent_decode f.2)) (three parse_u64 parse_u64 last_word words)
 
 -- a symbolic link can lead there: it is a path of a tree, whatever names are in it
 abbrev pub is_target : List ℕ → Bool
@@ -47,7 +47,7 @@ linked node bytes = if is_target bytes then Some (File node Link bytes) else Non
 
 -- `NODE TARGET`
 abbrev pub link_of : List (List ℕ) → Option Row
-link_of words = option_and_then (λ l. linked l.0 (percent_decode l.1)) (both number_of last_word words)
+link_of words = option_and_then (λ l. linked l.0 (percent_decode l.1)) (both parse_u64 last_word words)
 
 -- the attributes of a number
 abbrev pub with_attributes : ℕ → ℕ → ℕ → ℕ → Row
@@ -55,7 +55,7 @@ with_attributes node mode owner group = Attributes node (record { mode = mode; o
 
 -- `NODE MODE OWNER GROUP`
 abbrev pub attributes_of : List (List ℕ) → Option Row
-attributes_of words = option_map (λ a. with_attributes a.0 a.1 a.2.0 a.2.1) (three number_of mode_of (both short_number_of (only short_number_of)) words)
+attributes_of words = option_map (λ a. with_attributes a.0 a.1 a.2.0 a.2.1) (three parse_u64 parse_mode (both parse_u32 (only parse_u32)) words)
 
 -- a time that can be: it has less than a second of nanoseconds
 abbrev pub timed : ℕ → ℤ → ℕ → Option Row
@@ -64,11 +64,11 @@ timed node seconds nanoseconds =
 
 -- `NODE SECONDS NANOSECONDS`
 abbrev pub time_of : List (List ℕ) → Option Row
-time_of words = option_and_then (λ t. timed t.0 t.1 t.2) (three number_of integer_of (only short_number_of) words)
+time_of words = option_and_then (λ t. timed t.0 t.1 t.2) (three parse_u64 parse_i64 (only parse_u32) words)
 
 -- `FD FILE ACCESS OFFSET`
 abbrev pub fd_of : List (List ℕ) → Option Row
-fd_of words = option_map (λ f. Descriptor) (three number_of number_of (both Some (only number_of)) words)
+fd_of words = option_map (λ f. Descriptor) (three parse_u64 parse_u64 (both Some (only parse_u64)) words)
 
 -- the row that the words after its name describe
 abbrev pub row_by : List ℕ → List (List ℕ) → Option Row

@@ -16,9 +16,9 @@ use Rattle.ft_copy.specs.declared.found.FoundFile.{FoundFile}
 use Rattle.ft_copy.specs.declared.found.Given.{Given}
 use Rattle.ft_copy.specs.declared.found.Found.{Found}
 use Rattle.ft_copy.specs.declared.found.Found.TheVariants as found
-use Rattle.ft_copy.specs.declared.found.Listed.{Listed}
-use Rattle.ft_copy.specs.declared.trouble.Trouble.{Trouble}
-use Rattle.ft_copy.specs.declared.trouble.Trouble.TheVariants.{Memory, Read, BadName, BadTree}
+use Rattle.ft_copy.specs.declared.found.FolderEntry.{FolderEntry}
+use Rattle.ft_copy.specs.declared.copy_fault.CopyFault.{CopyFault}
+use Rattle.ft_copy.specs.declared.copy_fault.CopyFault.TheVariants.{Memory, Read, BadName, BadTree}
 use Rattle.ft_copy.specs.Told.{Told, Lists, Finds, Holds, Leads, Omits, Keeps, Refuses, HasNoName}
 use Rattle.ft_save.specs.declared.row.Row.{Row}
 use Rattle.ft_save.specs.declared.row.Row.TheVariants.{Folder, Edge, File, Attributes, Time, Descriptor}
@@ -57,7 +57,7 @@ abbrev pub bytes_in : List Row → ℕ → Option (List ℕ)
 bytes_in rows node = option_map (λ (content : Content). content.bytes) (file_in rows node)
 
 -- the names in a directory, those of later rows first
-abbrev pub edges_in : List Row → ℕ → List Listed
+abbrev pub edges_in : List Row → ℕ → List FolderEntry
 edges_in [] node = []
 edges_in (Folder other ∷ rows) node = edges_in rows node
 edges_in (Edge folder name other ∷ rows) node = if folder == node then edges_in rows node ++ record { name = name; node = other } ∷ [] else edges_in rows node
@@ -162,7 +162,7 @@ abbrev pub IsNothing : List Row → List ℕ → ℕ → Type 0
 IsNothing rows path node = (has_one_row rows node ≡ false) ⊎ IsMisplaced (file_in rows node) rows path node
 
 -- The reasons why the thing at a path, or its names, can't be found: which trouble comes when.
-abbrev pub IsRefused : List Row → List ℕ → ℕ → Trouble → Type 0
+abbrev pub IsRefused : List Row → List ℕ → ℕ → CopyFault → Type 0
 IsRefused rows path node Memory = Unit {0}
 IsRefused rows path node Read = file_in rows node ≡ None
 IsRefused rows path node BadName = HasNoName (edges_in rows node)
@@ -182,11 +182,11 @@ Tells rows (Refuses path node trouble) = IsRefused rows path node trouble
 -- ---- the index
 
 -- a name of the index, as it is listed
-abbrev pub listed : IndexEdge → Listed
+abbrev pub listed : IndexEdge → FolderEntry
 listed edge = record { name = edge.name; node = edge.node }
 
 -- the names that the index has in a directory
-abbrev pub names_at : Index → ℕ → List Listed
+abbrev pub names_at : Index → ℕ → List FolderEntry
 names_at index node = map listed (unwrap_or (finite.get index.edges node) [])
 
 -- The index has what the rows say of each number.

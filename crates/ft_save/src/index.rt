@@ -48,7 +48,7 @@ impl Index {
     ghost use Rattle.ft_cells.specs.Attributes.{attributes_from};
     ghost use Rattle.ft_save.specs.Trees.{Indexes, attributes_in, has_names, has_one_row};
 
-    /// Whether there is exactly one row of this number, of a directory or a file.
+    /// Returns whether there is exactly one row of this number, of a directory or a file.
     pub(crate) fn has_one_row(&self, node: u64) -> bool
         ensures { (rows : List Row) → Indexes self.now rows → result ≡ has_one_row rows node }
     {
@@ -58,7 +58,7 @@ impl Index {
         }
     }
 
-    /// Whether there are names in it.
+    /// Returns whether there are names in it.
     pub(crate) fn has_names(&self, node: u64) -> bool
         ensures { (rows : List Row) → Indexes self.now rows → result ≡ has_names rows node }
     {
@@ -70,7 +70,8 @@ impl Index {
 
     /// The attributes of a directory or file of this kind.
     pub(crate) fn attributes_of(&self, kind: Kind, node: u64) -> Attributes
-        ensures { (rows : List Row) → Indexes self.now rows → result ≡ attributes_from kind (attributes_in rows node) }
+        ensures { (rows : List Row) → Indexes self.now rows
+            → result ≡ attributes_from kind (attributes_in rows node) }
     {
         match self.attributes.get(node) {
             None => Attributes::of(kind),
@@ -99,9 +100,10 @@ pub(crate) fn index_of(alloc: Global, rows: Vec<Row>) -> Result<Index, Memory>
     Ok(index)
 }
 
-// Adds a row, in front of those that were added before.
+/// Adds a row, in front of those that were added before.
 fn add(index: &mut Index, row: Row) -> Result<(), Memory>
-    ensures { (rows : List Row) → Indexes index.old rows → OnOk result (Indexes index.new (row ∷ rows)) }
+    ensures { (rows : List Row) → Indexes index.old rows
+        → OnOk result (Indexes index.new (row ∷ rows)) }
 {
     match row {
         Row::Folder { node } => add_own(index, node),
@@ -126,16 +128,20 @@ fn add(index: &mut Index, row: Row) -> Result<(), Memory>
     }
 }
 
-// Notes that there is a row, or one more, of a directory or a file.
+/// Notes that there is a row, or one more, of a directory or a file.
 fn add_own(index: &mut Index, node: u64) -> Result<(), Memory>
-    ensures { OnOk result (index.new ≡ record index.old { own = finite.insert index.old.own node (finite.contains_key index.old.own node) }) }
+    ensures { OnOk result (index.new
+        ≡ record index.old {
+          own = finite.insert index.old.own node
+              (finite.contains_key index.old.own node);
+        }) }
 {
     let more = index.own.contains(node);
     index.own.insert(node, more)?;
     Ok(())
 }
 
-// Puts a name after those of its directory.
+/// Puts a name after those of its directory.
 fn add_edge(index: &mut Index, folder: u64, edge: Edge) -> Result<(), Memory>
     ensures { OnOk result (PutsName index.old folder edge index.new) }
 {
@@ -145,7 +151,7 @@ fn add_edge(index: &mut Index, folder: u64, edge: Edge) -> Result<(), Memory>
     Ok(())
 }
 
-// Takes out the names of a directory.
+/// Removes the names of a directory, and returns them.
 fn take_edges(index: &mut Index, folder: u64) -> Vec<Edge>
     ensures taken { result.items ≡ unwrap_or (finite.get index.old.edges folder) [] }
     ensures rest { index.new ≡ record index.old { edges = finite.remove index.old.edges folder } }

@@ -1,7 +1,7 @@
 // From replies to the report of what the tree holds with which they end.
 ghost use Rattle.std.specs.Prelude.{◌≡◌, IfOk, Some, option_map};
 ghost use Rattle.percent_encoding.specs.Percent.{percent_decode};
-ghost use Rattle.ft_words.specs.Spelling.{number_of, words_of};
+ghost use Rattle.ft_words.specs.Spelling.{parse_u64, words_of};
 ghost use Rattle.ft_words.specs.Calls.{both, last_word, only, three};
 ghost use Rattle.ft_save.specs.Reading.{attributes_of, count_of, edge_of, ends_a_line, fd_of, file_of, folder_of, is_target, last_tree, link_of, row_of, rows_of, time_of, tree_told};
 
@@ -9,7 +9,7 @@ use crate::row::Row;
 use ft_base::{Memory, Sequence};
 use ft_cells::{Attributes, Form, MOST_NANOSECONDS, Timestamp};
 use ft_path::LONGEST_PATH;
-use ft_words::{Lines, Words, integer_of, mode_of, number_of, short_number_of};
+use ft_words::{Lines, Words, parse_i64, parse_mode, parse_u32, parse_u64};
 use percent_encoding::percent_decode;
 use std::alloc::Global;
 
@@ -26,7 +26,7 @@ pub(crate) fn tree_told(alloc: Global, replies: &[u8]) -> Result<Option<Vec<Row>
     last_tree(alloc, Lines::of(replies))
 }
 
-// Whether the last byte is a line feed.
+/// Returns whether the last byte is a line feed.
 fn ends_a_line(bytes: &[u8]) -> bool
     ensures { result ≡ ends_a_line bytes.now }
 {
@@ -36,7 +36,7 @@ fn ends_a_line(bytes: &[u8]) -> bool
     }
 }
 
-// The rows of the report with which lines end.
+/// Returns the rows of the report with which lines end.
 fn last_tree(alloc: Global, lines: Lines<'_>) -> Result<Option<Vec<Row>>, Memory>
     ensures { IfOk result (λ rows. option_map (λ list. list.items) rows ≡ last_tree lines.entry) }
 {
@@ -52,9 +52,10 @@ fn last_tree(alloc: Global, lines: Lines<'_>) -> Result<Option<Vec<Row>>, Memory
     Ok(last)
 }
 
-// The rows of lines that are exactly so many.
+/// Returns the rows of lines, if there are exactly this many.
 fn rows_in(alloc: Global, count: u64, lines: Lines<'_>) -> Result<Option<Vec<Row>>, Memory>
-    ensures { IfOk result (λ rows. option_map (λ list. list.items) rows ≡ rows_of count lines.entry) }
+    ensures { IfOk result (λ rows. option_map (λ list. list.items) rows
+        ≡ rows_of count lines.entry) }
 {
     let mut rest = lines;
     let mut rows = Vec::new(alloc);
@@ -75,7 +76,7 @@ fn rows_in(alloc: Global, count: u64, lines: Lines<'_>) -> Result<Option<Vec<Row
     Ok(Some(rows))
 }
 
-// The count of rows on a line.
+/// Returns the count of rows on a line.
 fn count_in(line: &[u8]) -> Option<u64>
     ensures { result ≡ count_of (words_of line.now) }
 {
@@ -83,10 +84,10 @@ fn count_in(line: &[u8]) -> Option<u64>
     if words.next()? != b"tree".as_slice() {
         return None;
     }
-    number_of(words.only()?)
+    parse_u64(words.sole()?)
 }
 
-// The row that a line describes.
+/// Returns the row that a line describes.
 fn row_in(alloc: Global, line: &[u8]) -> Result<Option<Row>, Memory>
     ensures { IfOk result (λ row. row ≡ row_of (words_of line.now)) }
 {
@@ -113,15 +114,15 @@ fn row_in(alloc: Global, line: &[u8]) -> Result<Option<Row>, Memory>
     }
 }
 
-// `NODE`
+/// Reads the row `NODE` of a directory.
 fn folder_in(words: Words<'_>) -> Option<Row>
     ensures { result ≡ folder_of words.entry }
 {
-    let node = number_of(words.only()?)?;
+    let node = parse_u64(words.sole()?)?;
     Some(Row::Folder { node })
 }
 
-// `FOLDER NAME NODE`
+/// Reads the row `FOLDER NAME NODE` of a name.
 fn edge_in(alloc: Global, words: Words<'_>) -> Result<Option<Row>, Memory>
     ensures { IfOk result (λ row. row ≡ edge_of words.entry) }
 {
@@ -132,18 +133,19 @@ fn edge_in(alloc: Global, words: Words<'_>) -> Result<Option<Row>, Memory>
     Ok(Some(Row::Edge { folder, name, node }))
 }
 
-// The same as words, the name as it is coded.
+/// Returns the arguments of `FOLDER NAME NODE`, with the name as it is coded.
 fn edge_words<'a>(words: Words<'a>) -> Option<(u64, &'a [u8], u64)>
-    ensures { option_map (λ e. (e.0, e.1.now, e.2)) result ≡ three number_of Some (only number_of) words.entry }
+    ensures { option_map (λ e. (e.0, e.1.now, e.2)) result
+        ≡ three parse_u64 Some (only parse_u64) words.entry }
 {
     let mut words = words;
-    let folder = number_of(words.next()?)?;
+    let folder = parse_u64(words.next()?)?;
     let name = words.next()?;
-    let node = number_of(words.only()?)?;
+    let node = parse_u64(words.sole()?)?;
     Some((folder, name, node))
 }
 
-// `NODE SIZE DATA`; the data may be absent with its space.
+/// Reads the row `NODE SIZE DATA` of a file. The data may be absent with its space.
 fn file_in(alloc: Global, words: Words<'_>) -> Result<Option<Row>, Memory>
     ensures { IfOk result (λ row. row ≡ file_of words.entry) }
 {
@@ -161,18 +163,19 @@ fn file_in(alloc: Global, words: Words<'_>) -> Result<Option<Row>, Memory>
     }))
 }
 
-// The same as words, the data as they are coded.
+/// Returns the arguments of `NODE SIZE DATA`, with the data as they are coded.
 fn file_words<'a>(words: Words<'a>) -> Option<(u64, u64, &'a [u8])>
-    ensures { option_map (λ f. (f.0, f.1, f.2.now)) result ≡ three number_of number_of last_word words.entry }
+    ensures { option_map (λ f. (f.0, f.1, f.2.now)) result
+        ≡ three parse_u64 parse_u64 last_word words.entry }
 {
     let mut words = words;
-    let node = number_of(words.next()?)?;
-    let size = number_of(words.next()?)?;
-    let data = words.last()?;
+    let node = parse_u64(words.next()?)?;
+    let size = parse_u64(words.next()?)?;
+    let data = words.sole_or_empty()?;
     Some((node, size, data))
 }
 
-// `NODE TARGET`
+/// Reads the row `NODE TARGET` of a symbolic link.
 fn link_in(alloc: Global, words: Words<'_>) -> Result<Option<Row>, Memory>
     ensures { IfOk result (λ row. row ≡ link_of words.entry) }
 {
@@ -190,44 +193,44 @@ fn link_in(alloc: Global, words: Words<'_>) -> Result<Option<Row>, Memory>
     }))
 }
 
-// The same as words, the target as it is coded.
+/// Returns the arguments of `NODE TARGET`, with the target as it is coded.
 fn link_words<'a>(words: Words<'a>) -> Option<(u64, &'a [u8])>
-    ensures { option_map (λ l. (l.0, l.1.now)) result ≡ both number_of last_word words.entry }
+    ensures { option_map (λ l. (l.0, l.1.now)) result ≡ both parse_u64 last_word words.entry }
 {
     let mut words = words;
-    let node = number_of(words.next()?)?;
-    let target = words.last()?;
+    let node = parse_u64(words.next()?)?;
+    let target = words.sole_or_empty()?;
     Some((node, target))
 }
 
-// Whether a symbolic link can lead there.
+/// Returns whether a symbolic link can lead there.
 fn is_target(bytes: &[u8]) -> bool
     ensures { result ≡ is_target bytes.now }
 {
     !bytes.is_empty() && bytes.len() <= LONGEST_PATH && !bytes.contains(&0)
 }
 
-// `NODE MODE OWNER GROUP`
+/// Reads the row `NODE MODE OWNER GROUP` of attributes.
 fn attributes_in(words: Words<'_>) -> Option<Row>
     ensures { result ≡ attributes_of words.entry }
 {
     let mut words = words;
-    let node = number_of(words.next()?)?;
-    let mode = mode_of(words.next()?)?;
-    let owner = short_number_of(words.next()?)?;
-    let group = short_number_of(words.only()?)?;
+    let node = parse_u64(words.next()?)?;
+    let mode = parse_mode(words.next()?)?;
+    let owner = parse_u32(words.next()?)?;
+    let group = parse_u32(words.sole()?)?;
     let attributes = Attributes { mode, owner, group };
     Some(Row::Attributes { node, attributes })
 }
 
-// `NODE SECONDS NANOSECONDS`
+/// Reads the row `NODE SECONDS NANOSECONDS` of a time.
 fn time_in(words: Words<'_>) -> Option<Row>
     ensures { result ≡ time_of words.entry }
 {
     let mut words = words;
-    let node = number_of(words.next()?)?;
-    let seconds = integer_of(words.next()?)?;
-    let nanoseconds = short_number_of(words.only()?)?;
+    let node = parse_u64(words.next()?)?;
+    let seconds = parse_i64(words.next()?)?;
+    let nanoseconds = parse_u32(words.sole()?)?;
     if nanoseconds > MOST_NANOSECONDS {
         return None;
     }
@@ -238,19 +241,19 @@ fn time_in(words: Words<'_>) -> Option<Row>
     Some(Row::Time { node, time })
 }
 
-// `FD FILE ACCESS OFFSET`
+/// Reads the row `FD FILE ACCESS OFFSET` of a descriptor.
 fn fd_in(words: Words<'_>) -> Option<Row>
     ensures { result ≡ fd_of words.entry }
 {
     let mut words = words;
-    number_of(words.next()?)?;
-    number_of(words.next()?)?;
+    parse_u64(words.next()?)?;
+    parse_u64(words.next()?)?;
     words.next()?;
-    number_of(words.only()?)?;
+    parse_u64(words.sole()?)?;
     Some(Row::Descriptor)
 }
 
-// The bytes that a word codes.
+/// Returns the bytes that a word codes.
 fn decoded(alloc: Global, word: &[u8]) -> Result<Sequence<u8>, Memory>
     ensures { IfOk result (λ bytes. bytes ≡ percent_decode word.now) }
 {

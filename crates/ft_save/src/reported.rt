@@ -6,8 +6,8 @@ ghost use Rattle.ft_save.specs.Trees.{file_facts, found_as, listed, row_id};
 use crate::index::{Content, Edge, Index};
 use ft_cells::{DEFAULT_LINKS, Form, Kind};
 use ft_copy::{
-    FileFacts, FileId, Found, FoundFile, FoundFolder, Given, Leading, Listed, Listing, Opened,
-    ROOT, Source, Trouble, name_of,
+    CopyFault, FileFacts, FileId, FolderEntry, Found, FoundFile, FoundFolder, Given, Leading,
+    Listing, Opened, ROOT, Source, name_of,
 };
 use std::alloc::Global;
 
@@ -24,9 +24,10 @@ impl<'a> Source for Reported<'a> {
 
     type File = &'a [u8];
 
-    ghost tells = { λ reported told. (rows : List Row) → Indexes reported.index.now rows → Tells rows told };
+    ghost tells = { λ reported told. (rows : List Row) → Indexes reported.index.now rows
+        → Tells rows told };
 
-    fn names(&self, _path: &[u8], node: u64) -> Result<Listing, Trouble> {
+    fn names(&self, _path: &[u8], node: u64) -> Result<Listing, CopyFault> {
         let alloc = self.index.alloc;
         let names = match self.index.edges.get(node) {
             Some(edges) => names_of(alloc, edges.as_slice())?,
@@ -36,14 +37,14 @@ impl<'a> Source for Reported<'a> {
         Ok(Listing { id, names })
     }
 
-    fn look(&self, path: &[u8], node: u64) -> Result<Found, Trouble> {
+    fn look(&self, path: &[u8], node: u64) -> Result<Found, CopyFault> {
         if !self.index.has_one_row(node) {
-            return Err(Trouble::BadTree);
+            return Err(CopyFault::BadTree);
         }
         let more = self.index.named.get(node).copied().unwrap_or(false);
         if let Some(content) = self.index.files.get(node) {
             if path.is_empty() || self.index.has_names(node) {
-                return Err(Trouble::BadTree);
+                return Err(CopyFault::BadTree);
             }
             let given = Given {
                 attributes: self.index.attributes_of(Kind::File, node),
@@ -52,7 +53,7 @@ impl<'a> Source for Reported<'a> {
             return Ok(found(node, more, content, given));
         }
         if more || path.is_empty() != (node == ROOT) {
-            return Err(Trouble::BadTree);
+            return Err(CopyFault::BadTree);
         }
         Ok(Found::Folder(FoundFolder {
             id: id_of(node),
@@ -60,17 +61,17 @@ impl<'a> Source for Reported<'a> {
         }))
     }
 
-    fn open(&self, _path: &[u8], node: u64) -> Result<Opened<&'a [u8]>, Trouble> {
+    fn open(&self, _path: &[u8], node: u64) -> Result<Opened<&'a [u8]>, CopyFault> {
         match self.index.files.get(node) {
             Some(content) => Ok(Opened {
                 id: id_of(node),
                 file: content.bytes.as_slice(),
             }),
-            None => Err(Trouble::Read),
+            None => Err(CopyFault::Read),
         }
     }
 
-    fn read_link(&self, _path: &[u8], node: u64) -> Result<Leading, Trouble> {
+    fn read_link(&self, _path: &[u8], node: u64) -> Result<Leading, CopyFault> {
         match self.index.files.get(node) {
             Some(content) => {
                 let to = Vec::from_slice(self.index.alloc, content.bytes.as_slice())?;
@@ -79,16 +80,16 @@ impl<'a> Source for Reported<'a> {
                     to: to.into(),
                 })
             }
-            None => Err(Trouble::Read),
+            None => Err(CopyFault::Read),
         }
     }
 
-    fn omits(&self, _path: &[u8]) -> Result<bool, Trouble> {
+    fn omits(&self, _path: &[u8]) -> Result<bool, CopyFault> {
         Ok(false)
     }
 }
 
-// What distinguishes something from all else: its number.
+/// Returns what distinguishes something from all else: its number.
 fn id_of(node: u64) -> FileId
     ensures { result ≡ row_id node }
 {
@@ -98,9 +99,10 @@ fn id_of(node: u64) -> FileId
     }
 }
 
-// A file as it is found, which may have more names than one.
+/// Returns a file as it is found, which may have more than one name.
 fn found(node: u64, more: bool, content: &Content, given: Given) -> Found
-    ensures { result ≡ found_as content.now.form (record { facts = file_facts node more content.now.bytes; given = given }) }
+    ensures { result ≡ found_as content.now.form
+        (record { facts = file_facts node more content.now.bytes; given = given }) }
 {
     let facts = FileFacts {
         id: id_of(node),
@@ -113,16 +115,18 @@ fn found(node: u64, more: bool, content: &Content, given: Given) -> Found
     }
 }
 
-// The names that are listed. Bytes that are no name are refused.
-fn names_of(alloc: Global, edges: &[Edge]) -> Result<Vec<Listed>, Trouble>
+/// Returns the names that are listed. Refuses bytes that are no name.
+fn names_of(alloc: Global, edges: &[Edge]) -> Result<Vec<FolderEntry>, CopyFault>
     ensures ok { IfOk result (λ names. names.items ≡ map listed edges.now) }
-    ensures err { IfErr result (λ trouble. (trouble ≡ Trouble.Memory) ⊎ ((trouble ≡ Trouble.BadName) × HasNoName (map listed edges.now))) }
+    ensures err { IfErr result
+        (λ trouble. (trouble ≡ CopyFault.Memory) ⊎ ((trouble ≡ CopyFault.BadName)
+        × HasNoName (map listed edges.now))) }
 {
     let mut names = Vec::new(alloc);
     let mut rest = edges;
     while let Some((edge, more)) = rest.split_first() {
         let name = name_of(alloc, edge.name.as_slice())?;
-        names.push(Listed {
+        names.push(FolderEntry {
             name,
             node: edge.node,
         })?;

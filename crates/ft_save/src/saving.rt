@@ -9,7 +9,7 @@ use crate::reading::tree_told;
 use crate::reported::Reported;
 use crate::row::Row;
 use ft_base::Memory;
-use ft_copy::{CopyLimits, Stopped, Target, copy};
+use ft_copy::{CopyLimits, CopyStop, Target, copy};
 use ft_dot::read_all;
 use ft_script::PlayFault;
 use std::alloc::Global;
@@ -27,7 +27,7 @@ pub enum SaveFault {
     NoTree,
     /// The copy was not made.
     #[error("{}", .0.trouble)]
-    Stopped(Stopped),
+    CopyStop(CopyStop),
 }
 
 /// Reads replies to their end, and makes the tree of the report with which they end: directories,
@@ -42,18 +42,24 @@ pub fn save<R: Read, T: Target>(
     reader: &mut R,
     target: &mut T,
 ) -> Result<(), SaveFault>
-    ensures ok { OnOk result (Saves limits (R.remaining reader.old) (R.remaining reader.new) T.does target.old target.new) }
+    ensures ok { OnOk result
+        (Saves limits (R.remaining reader.old) (R.remaining reader.new) T.does target.old
+        target.new) }
     ensures err { OnErr result (IsLeft T.does T.fails target.old target.new) }
-    ensures fault { IfErr result (λ fault. StopsSave limits T.does T.fails fault (R.remaining reader.old) (R.remaining reader.new) target.old target.new) }
+    ensures fault { IfErr result
+        (λ fault. StopsSave limits T.does T.fails fault (R.remaining reader.old)
+        (R.remaining reader.new) target.old target.new) }
 {
     let rows = last_rows(alloc, reader)?;
     copy_rows(alloc, limits, rows, target)
 }
 
-// Reads replies to their end, and finds the rows of the report with which they end.
+/// Reads replies to their end, and returns the rows of the report with which they end.
 fn last_rows<R: Read>(alloc: Global, reader: &mut R) -> Result<Vec<Row>, SaveFault>
-    ensures ok { IfOk result (λ rows. IsLast (R.remaining reader.old) (R.remaining reader.new) rows.items) }
-    ensures fault { IfErr result (λ fault. FindsNone fault (R.remaining reader.old) (R.remaining reader.new)) }
+    ensures ok { IfOk result
+        (λ rows. IsLast (R.remaining reader.old) (R.remaining reader.new) rows.items) }
+    ensures fault { IfErr result
+        (λ fault. FindsNone fault (R.remaining reader.old) (R.remaining reader.new)) }
 {
     let mut replies = Vec::new(alloc);
     read_all(reader, &mut replies)?;
@@ -61,7 +67,7 @@ fn last_rows<R: Read>(alloc: Global, reader: &mut R) -> Result<Vec<Row>, SaveFau
     rows.ok_or(SaveFault::NoTree)
 }
 
-// Copies the tree that rows describe.
+/// Copies the tree that rows describe.
 fn copy_rows<T: Target>(
     alloc: Global,
     limits: CopyLimits,
@@ -70,7 +76,8 @@ fn copy_rows<T: Target>(
 ) -> Result<(), SaveFault>
     ensures ok { OnOk result (Copies limits (Tells rows.items) T.does target.old target.new) }
     ensures err { OnErr result (IsLeft T.does T.fails target.old target.new) }
-    ensures fault { IfErr result (λ fault. StopsRows limits T.does T.fails fault rows.items target.old target.new) }
+    ensures fault { IfErr result
+        (λ fault. StopsRows limits T.does T.fails fault rows.items target.old target.new) }
 {
     let index = index_of(alloc, rows)?;
     let source = Reported { index: &index };
@@ -101,13 +108,13 @@ impl From<Memory> for SaveFault {
     }
 }
 
-impl From<Stopped> for SaveFault {
+impl From<CopyStop> for SaveFault {
     ghost use Rattle.std.specs.Prelude.{◌≡◌};
     ghost use Rattle.ft_save.specs.declared.saving.SaveFault.TheVariants as faults;
 
-    ghost from_gives = { λ stopped save_fault. save_fault ≡ faults.Stopped stopped };
+    ghost from_gives = { λ stopped save_fault. save_fault ≡ faults.CopyStop stopped };
 
-    fn from(stopped: Stopped) -> SaveFault {
-        SaveFault::Stopped(stopped)
+    fn from(stopped: CopyStop) -> SaveFault {
+        SaveFault::CopyStop(stopped)
     }
 }

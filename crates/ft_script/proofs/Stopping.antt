@@ -13,8 +13,8 @@ use Rattle.ft_words.specs.Spelling.{IsFreeOf, lines_of}
 use Rattle.ft_strict.specs.Strict.{AnswersStrictly}
 use Rattle.ft_script.specs.Cutting.{Cuts, Fits, IsNext}
 use Rattle.ft_script.specs.Reading.{GivesLine, StopsCutting, StopsReading}
-use Rattle.ft_replies.specs.Requests.{meaning_of}
-use Rattle.ft_replies.specs.Lines.{GivesText}
+use Rattle.ft_line.specs.Requests.{parse_line}
+use Rattle.ft_line.specs.Lines.{GivesText}
 use Rattle.ft_script.specs.Gathering.{FailsGathering, Gathers, GathersLines, StopsAnswering, StopsGathering, StopsLastStrictly}
 use Rattle.ft_script.specs.Runs.{Answers, AnswersFreely, FailsLine, IsTextOfRun, LosesReplies, MayAnswer, Plays, PlaysAll, StopsAt, StopsIn, StopsLine, StopsStrictly, WritesPart}
 use Rattle.ft_script.proofs.Cutting.{cuts_none, cuts_read, cuts_more, all_ended, all_but_last_ended, fits_more}
@@ -311,7 +311,7 @@ stops_at_last_strictly left left_now uncut count held held_now held_after old no
 -- ---- what became of a line
 
 -- there was no memory for a line or its reply
-pub wants_memory : (bytes : List ℕ) (old new : State) → (new ≡ old) ⊎ ((text : List ℕ) × GivesText old (meaning_of bytes) text new) → MayAnswer AnswersFreely bytes old new
+pub wants_memory : (bytes : List ℕ) (old new : State) → (new ≡ old) ⊎ ((text : List ℕ) × GivesText old (parse_line bytes) text new) → MayAnswer AnswersFreely bytes old new
 wants_memory bytes old new (inl h) = inl h
 wants_memory bytes old new (inr h) = inr (true, h.0, (refl, h.1))
 

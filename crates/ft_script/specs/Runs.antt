@@ -15,8 +15,8 @@ use Rattle.ft_script.specs.declared.strictly.StrictFault.{StrictFault}
 use Rattle.ft_script.specs.declared.strictly.StrictFault.TheVariants.{Play, Line}
 use Rattle.ft_script.specs.Cutting.{BeginsTooLong, Cuts, Fits, IsNext}
 use Rattle.ft_words.specs.Spelling.{IsFreeOf, lines_of}
-use Rattle.ft_replies.specs.Requests.{meaning_of}
-use Rattle.ft_replies.specs.Lines.{GivesText}
+use Rattle.ft_line.specs.Requests.{parse_line}
+use Rattle.ft_line.specs.Lines.{GivesText}
 use Rattle.ft_strict.specs.Strict.{AnswersStrictly}
 
 -- How the lines of a script are answered: whether the run goes on after a line, the state of the
@@ -26,7 +26,7 @@ Answers = Bool → State → List ℕ → List ℕ → State → Type 0
 
 -- The run goes on after each line.
 abbrev pub AnswersFreely : Answers
-AnswersFreely on old bytes text new = (on ≡ true) × GivesText old (meaning_of bytes) text new
+AnswersFreely on old bytes text new = (on ≡ true) × GivesText old (parse_line bytes) text new
 
 -- The text of a run: what is written for lines, one after another, from the one state of a core to
 -- the other. It goes on after each of them.

@@ -12,7 +12,7 @@ use ft_base::Memory;
 use std::alloc::Global;
 use std::io::{Read, Write};
 
-// How many bytes of replies are written before the next line is carried out.
+/// How many bytes of replies are written before the next line is carried out.
 const MOST_GATHERED: usize = 65_536;
 
 /// A script, and the replies to it that are not written yet.
@@ -39,17 +39,24 @@ impl Script {
     /// are written. Returns whether there is something to cut; if not, the script has ended.
     pub(crate) fn read_more<R: Read>(&mut self, reader: &mut R) -> Result<bool, PlayFault>
         requires written { self.old.replies.items ≡ [] }
-        ensures bytes { OnOk result ((read : List ℕ) × Consumes (R.remaining reader.old) (R.remaining reader.new) read × (uncut self.new.lines ≡ uncut self.old.lines ++ read)) }
-        ensures more { IfOk result (λ more. more ≡ true → (0 < unscanned self.new.lines) × (to_read self.new.lines ≤ to_read self.old.lines)) }
-        ensures end { IfOk result (λ more. more ≡ false → IsAtEnd (R.remaining reader.new) × HasRoom self.new.lines) }
+        ensures bytes { OnOk result ((read : List ℕ)
+            × Consumes (R.remaining reader.old) (R.remaining reader.new) read
+            × (uncut self.new.lines ≡ uncut self.old.lines ++ read)) }
+        ensures more { IfOk result
+            (λ more. more ≡ true → (0 < unscanned self.new.lines)
+            × (to_read self.new.lines ≤ to_read self.old.lines)) }
+        ensures end { IfOk result
+            (λ more. more ≡ false → IsAtEnd (R.remaining reader.new) × HasRoom self.new.lines) }
         ensures count { cut_count self.new.lines ≡ cut_count self.old.lines }
         ensures replies { self.new.replies.items ≡ [] }
-        ensures fault { IfErr result (λ fault. StopsReading fault (R.remaining reader.old) (R.remaining reader.new) (uncut self.old.lines)) }
+        ensures fault { IfErr result
+            (λ fault. StopsReading fault (R.remaining reader.old) (R.remaining reader.new)
+            (uncut self.old.lines)) }
     {
         self.lines.read_more(reader)
     }
 
-    /// Whether fewer replies are gathered than must be written.
+    /// Returns whether fewer replies are gathered than must be written.
     pub(crate) fn may_gather(&self) -> bool
         ensures yes { result ≡ true → length self.now.replies.items < MOST_GATHERED }
         ensures no { result ≡ false → MOST_GATHERED ≤ length self.now.replies.items }
@@ -69,10 +76,12 @@ impl Script {
 
     /// Writes the replies that are gathered.
     pub(crate) fn write_replies<W: Write>(&mut self, writer: &mut W) -> Result<(), PlayFault>
-        ensures ok { OnOk result (Appends (W.contents writer.old) (W.contents writer.new) self.old.replies.items) }
+        ensures ok { OnOk result
+            (Appends (W.contents writer.old) (W.contents writer.new) self.old.replies.items) }
         ensures written { OnOk result (self.new.replies.items ≡ []) }
         ensures lines { self.new.lines ≡ self.old.lines }
-        ensures err { OnErr result (WritesPart (W.contents writer.old) (W.contents writer.new) self.old.replies.items) }
+        ensures err { OnErr result
+            (WritesPart (W.contents writer.old) (W.contents writer.new) self.old.replies.items) }
         ensures cause { IfErr result (λ fault. fault ≡ PlayFault.Write) }
     {
         write_out(writer, self.replies.as_slice())?;

@@ -13,7 +13,7 @@ use ft_words::split_once;
 use std::alloc::Global;
 use std::io::{ErrorKind, Read};
 
-// How many bytes are read at once.
+/// How many bytes are read at once.
 const CHUNK: usize = 65_536;
 
 /// The lines of a script, which a reader gives in pieces: the last one that was cut, and what comes
@@ -84,11 +84,18 @@ impl ScriptLines {
     /// Reads more, if all that was read is in lines that have ended. Returns whether there is
     /// something to cut; if not, the script has ended.
     pub(crate) fn read_more<R: Read>(&mut self, reader: &mut R) -> Result<bool, PlayFault>
-        ensures bytes { OnOk result ((read : List ℕ) × Consumes (R.remaining reader.old) (R.remaining reader.new) read × (uncut self.new ≡ uncut self.old ++ read)) }
-        ensures more { IfOk result (λ more. more ≡ true → (0 < unscanned self.new) × (to_read self.new ≤ to_read self.old)) }
-        ensures end { IfOk result (λ more. more ≡ false → IsAtEnd (R.remaining reader.new) × HasRoom self.new) }
+        ensures bytes { OnOk result ((read : List ℕ)
+            × Consumes (R.remaining reader.old) (R.remaining reader.new) read
+            × (uncut self.new ≡ uncut self.old ++ read)) }
+        ensures more { IfOk result
+            (λ more. more ≡ true → (0 < unscanned self.new)
+            × (to_read self.new ≤ to_read self.old)) }
+        ensures end { IfOk result
+            (λ more. more ≡ false → IsAtEnd (R.remaining reader.new) × HasRoom self.new) }
         ensures count { cut_count self.new ≡ cut_count self.old }
-        ensures fault { IfErr result (λ fault. StopsReading fault (R.remaining reader.old) (R.remaining reader.new) (uncut self.old)) }
+        ensures fault { IfErr result
+            (λ fault. StopsReading fault (R.remaining reader.old) (R.remaining reader.new)
+            (uncut self.old)) }
     {
         if self.start < self.end {
             return Ok(true);
@@ -101,13 +108,20 @@ impl ScriptLines {
 
     /// Cuts the next line of what was read, and returns whether there is one that has ended.
     pub(crate) fn cut(&mut self) -> Result<bool, PlayFault>
-        ensures line { IfOk result (λ found. found ≡ true → GivesLine (uncut self.old) (uncut self.new) (cut_line self.new)) }
-        ensures count { IfOk result (λ found. found ≡ true → cut_count self.new ≡ cut_count self.old + 1) }
-        ensures none { IfOk result (λ found. found ≡ false → (uncut self.new ≡ uncut self.old) × (cut_count self.new ≡ cut_count self.old) × (unscanned self.new ≡ 0)) }
-        ensures scanned { IfOk result (λ found. found ≡ true → unscanned self.new < unscanned self.old) }
+        ensures line { IfOk result
+            (λ found. found ≡ true → GivesLine (uncut self.old) (uncut self.new)
+            (cut_line self.new)) }
+        ensures count { IfOk result
+            (λ found. found ≡ true → cut_count self.new ≡ cut_count self.old + 1) }
+        ensures none { IfOk result
+            (λ found. found ≡ false → (uncut self.new ≡ uncut self.old)
+            × (cut_count self.new ≡ cut_count self.old) × (unscanned self.new ≡ 0)) }
+        ensures scanned { IfOk result
+            (λ found. found ≡ true → unscanned self.new < unscanned self.old) }
         ensures reads { self.new.reads_left ≡ self.old.reads_left }
         ensures fault { IfErr result (λ fault. StopsCutting fault (uncut self.old)) }
-        ensures cause { IfErr result (λ fault. (fault ≡ PlayFault.TooLong) ⊎ (fault ≡ PlayFault.Memory)) }
+        ensures cause { IfErr result
+            (λ fault. (fault ≡ PlayFault.TooLong) ⊎ (fault ≡ PlayFault.Memory)) }
     {
         drop_cut(&mut self.line, self.is_cut);
         self.is_cut = false;
@@ -131,7 +145,9 @@ impl ScriptLines {
     /// Cuts the last line, which has no line feed, if it has a byte. Returns whether it has.
     pub(crate) fn cut_last(&mut self) -> bool
         requires { HasRoom self.old }
-        ensures some { result ≡ true → (uncut self.old ≡ cut_line self.new) × (0 < length (cut_line self.new)) × IsFreeOf 10 (cut_line self.new) × Fits (cut_line self.new) }
+        ensures some { result ≡ true → (uncut self.old ≡ cut_line self.new)
+            × (0 < length (cut_line self.new)) × IsFreeOf 10 (cut_line self.new)
+            × Fits (cut_line self.new) }
         ensures count { result ≡ true → cut_count self.new ≡ cut_count self.old + 1 }
         ensures none { result ≡ false → uncut self.old ≡ [] }
     {
@@ -145,15 +161,17 @@ impl ScriptLines {
     }
 }
 
-// One read that is not interrupted. An interrupted one counts, and is tried again.
+/// Makes one read that is not interrupted. An interrupted read counts, and is tried again.
 fn read_some<R: Read>(
     reader: &mut R,
     buffer: &mut [u8],
     reads_left: &mut u32,
 ) -> Result<usize, PlayFault>
     ensures bound { ReadsAtMost result buffer.new }
-    ensures bytes { IfOk result (λ n. Consumes (R.remaining reader.old) (R.remaining reader.new) (take n buffer.new)) }
-    ensures end { IfOk result (λ n. n ≡ 0 → 0 < length buffer.old → IsAtEnd (R.remaining reader.new)) }
+    ensures bytes { IfOk result
+        (λ n. Consumes (R.remaining reader.old) (R.remaining reader.new) (take n buffer.new)) }
+    ensures end { IfOk result
+        (λ n. n ≡ 0 → 0 < length buffer.old → IsAtEnd (R.remaining reader.new)) }
     ensures err { OnErr result (Keeps (R.remaining reader.old) (R.remaining reader.new)) }
     ensures cause { IfErr result (λ fault. (fault ≡ PlayFault.Read) ⊎ (fault ≡ PlayFault.Turns)) }
     ensures counts { OnOk result (reads_left.new < reads_left.old) }
@@ -175,7 +193,7 @@ fn read_some<R: Read>(
     Err(PlayFault::Turns)
 }
 
-// Drops a line if it was cut, and leaves one that has begun.
+/// Clears a line if it was cut, and keeps a line that has begun.
 fn drop_cut(line: &mut Vec<u8>, is_cut: bool)
     ensures { line.new.items ≡ if is_cut then [] else line.old.items }
 {
@@ -184,12 +202,14 @@ fn drop_cut(line: &mut Vec<u8>, is_cut: bool)
     }
 }
 
-// Puts bytes after those of a line that has begun.
+/// Puts bytes after those of a line that has begun.
 fn lengthen(begun: &mut Vec<u8>, piece: &[u8]) -> Result<(), PlayFault>
     ensures ok { OnOk result (begun.new.items ≡ begun.old.items ++ piece.now) }
     ensures fits { OnOk result (Fits begun.new.items) }
-    ensures too_long { IsErrOf result PlayFault.TooLong ↔ (LONGEST_LINE < length begun.old.items + length piece.now) }
-    ensures cause { IfErr result (λ fault. (fault ≡ PlayFault.TooLong) ⊎ (fault ≡ PlayFault.Memory)) }
+    ensures too_long { IsErrOf result PlayFault.TooLong
+        ↔ (LONGEST_LINE < length begun.old.items + length piece.now) }
+    ensures cause { IfErr result
+        (λ fault. (fault ≡ PlayFault.TooLong) ⊎ (fault ≡ PlayFault.Memory)) }
     ensures kept { OnErr result (begun.new.items ≡ begun.old.items) }
 {
     if begun.len().saturating_add(piece.len()) > LONGEST_LINE {

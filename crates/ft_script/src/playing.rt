@@ -9,7 +9,7 @@ use crate::gathering::Script;
 use crate::writing::write_out;
 use ft_base::Memory;
 use ft_core::Core;
-use ft_replies::{reply_into, reply_to};
+use ft_line::{reply_into, reply_to};
 use std::alloc::{AllocError, Global};
 use std::io::{Read, Write};
 use thiserror::Error;
@@ -87,10 +87,12 @@ pub fn play<R: Read, W: Write>(
     writer: &mut W,
     core: &mut Core,
 ) -> Result<(), PlayFault>
-    ensures ok { OnOk result (PlaysAll AnswersFreely (R.remaining reader.old) (R.remaining reader.new)
+    ensures ok { OnOk result
+        (PlaysAll AnswersFreely (R.remaining reader.old) (R.remaining reader.new)
         (W.contents writer.old) (W.contents writer.new) core.old.state core.new.state) }
     ensures fault { IfErr result (λ fault. StopsAt AnswersFreely fault (R.remaining reader.old)
-        (R.remaining reader.new) (W.contents writer.old) (W.contents writer.new) core.old.state core.new.state) }
+        (R.remaining reader.new) (W.contents writer.old) (W.contents writer.new) core.old.state
+        core.new.state) }
 {
     let mut script = Script::new(alloc)?;
     while script.read_more(reader)? {
@@ -104,12 +106,18 @@ pub fn play<R: Read, W: Write>(
     play_last(alloc, script.lines.line(), writer, core)
 }
 
-// Carries out the lines that were read, until enough replies are gathered.
+/// Carries out the lines that were read, until enough replies are gathered.
 fn answer_lines(alloc: Global, script: &mut Script, core: &mut Core) -> Result<(), PlayFault>
     requires { script.old.replies.items ≡ [] }
-    ensures ok { OnOk result (Gathers AnswersFreely (uncut script.old.lines) (uncut script.new.lines) (cut_count script.old.lines) (cut_count script.new.lines) script.new.replies.items core.old.state core.new.state) }
-    ensures fault { IfErr result (λ fault. StopsGathering AnswersFreely fault (uncut script.old.lines) script.new.replies.items core.old.state core.new.state) }
-    ensures less { OnOk result (0 < unscanned script.old.lines → to_read script.new.lines < to_read script.old.lines) }
+    ensures ok { OnOk result
+        (Gathers AnswersFreely (uncut script.old.lines) (uncut script.new.lines)
+        (cut_count script.old.lines) (cut_count script.new.lines) script.new.replies.items
+        core.old.state core.new.state) }
+    ensures fault { IfErr result
+        (λ fault. StopsGathering AnswersFreely fault (uncut script.old.lines)
+        script.new.replies.items core.old.state core.new.state) }
+    ensures less { OnOk result (0 < unscanned script.old.lines
+        → to_read script.new.lines < to_read script.old.lines) }
 {
     let mut reply = String::new(alloc);
     while script.may_gather() && script.lines.cut()? {
@@ -119,15 +127,19 @@ fn answer_lines(alloc: Global, script: &mut Script, core: &mut Core) -> Result<(
     Ok(())
 }
 
-// Carries out the last line, and writes its reply.
+/// Carries out the last line, and writes its reply.
 fn play_last<W: Write>(
     alloc: Global,
     line: &[u8],
     writer: &mut W,
     core: &mut Core,
 ) -> Result<(), PlayFault>
-    ensures ok { OnOk result ((text : List ℕ) × AnswersFreely true core.old.state line.now text core.new.state × Appends (W.contents writer.old) (W.contents writer.new) text) }
-    ensures fault { IfErr result (λ fault. StopsLine AnswersFreely fault line.now (W.contents writer.old) (W.contents writer.new) core.old.state core.new.state) }
+    ensures ok { OnOk result ((text : List ℕ)
+        × AnswersFreely true core.old.state line.now text core.new.state
+        × Appends (W.contents writer.old) (W.contents writer.new) text) }
+    ensures fault { IfErr result
+        (λ fault. StopsLine AnswersFreely fault line.now (W.contents writer.old)
+        (W.contents writer.new) core.old.state core.new.state) }
 {
     let reply = reply_to(alloc, line, core)?;
     write_out(writer, reply.as_bytes())

@@ -73,10 +73,12 @@ pub fn play_strictly<R: Read, W: Write>(
     writer: &mut W,
     core: &mut Core,
 ) -> Result<(), StrictFault>
-    ensures ok { OnOk result (PlaysAll AnswersStrictly (R.remaining reader.old) (R.remaining reader.new)
+    ensures ok { OnOk result
+        (PlaysAll AnswersStrictly (R.remaining reader.old) (R.remaining reader.new)
         (W.contents writer.old) (W.contents writer.new) core.old.state core.new.state) }
     ensures fault { IfErr result (λ fault. StopsStrictly fault (R.remaining reader.old)
-        (R.remaining reader.new) (W.contents writer.old) (W.contents writer.new) core.old.state core.new.state) }
+        (R.remaining reader.new) (W.contents writer.old) (W.contents writer.new) core.old.state
+        core.new.state) }
 {
     let mut script = Script::new(alloc)?;
     while script.read_more(reader)? {
@@ -96,8 +98,8 @@ pub fn play_strictly<R: Read, W: Write>(
     play_last_strictly(alloc, script.lines, writer, core)
 }
 
-// Carries out the lines that were read, until enough replies are gathered, or up to the first that
-// did not do what it requests, and returns the reply to that.
+/// Carries out the lines that were read, until enough replies are gathered, or up to the first line
+/// that did not do what it requests. Returns the reply to that line, if there is one.
 fn answer_strictly(
     alloc: Global,
     script: &mut Script,
@@ -105,10 +107,17 @@ fn answer_strictly(
 ) -> Result<Option<String>, PlayFault>
     requires { script.old.replies.items ≡ [] }
     ensures ok { IfOk result (λ failed. MatchOption failed
-        (Gathers AnswersStrictly (uncut script.old.lines) (uncut script.new.lines) (cut_count script.old.lines) (cut_count script.new.lines) script.new.replies.items core.old.state core.new.state)
-        (λ reply. FailsGathering (uncut script.old.lines) (cut_count script.old.lines) (cut_count script.new.lines) (cut_line script.new.lines) (string_bytes reply) script.new.replies.items core.old.state core.new.state)) }
-    ensures fault { IfErr result (λ fault. StopsGathering AnswersStrictly fault (uncut script.old.lines) script.new.replies.items core.old.state core.new.state) }
-    ensures less { OnOk result (0 < unscanned script.old.lines → to_read script.new.lines < to_read script.old.lines) }
+        (Gathers AnswersStrictly (uncut script.old.lines) (uncut script.new.lines)
+        (cut_count script.old.lines) (cut_count script.new.lines) script.new.replies.items
+        core.old.state core.new.state)
+        (λ reply. FailsGathering (uncut script.old.lines) (cut_count script.old.lines)
+        (cut_count script.new.lines) (cut_line script.new.lines) (string_bytes reply)
+        script.new.replies.items core.old.state core.new.state)) }
+    ensures fault { IfErr result
+        (λ fault. StopsGathering AnswersStrictly fault (uncut script.old.lines)
+        script.new.replies.items core.old.state core.new.state) }
+    ensures less { OnOk result (0 < unscanned script.old.lines
+        → to_read script.new.lines < to_read script.old.lines) }
 {
     while script.may_gather() && script.lines.cut()? {
         let reply = strict_reply_to(alloc, script.lines.line(), core)?;
@@ -120,15 +129,19 @@ fn answer_strictly(
     Ok(None)
 }
 
-// Carries out the last line, and writes its reply.
+/// Carries out the last line, and writes its reply.
 fn play_last_strictly<W: Write>(
     alloc: Global,
     lines: ScriptLines,
     writer: &mut W,
     core: &mut Core,
 ) -> Result<(), StrictFault>
-    ensures ok { OnOk result ((text : List ℕ) × AnswersStrictly true core.old.state (cut_line lines) text core.new.state × Appends (W.contents writer.old) (W.contents writer.new) text) }
-    ensures fault { IfErr result (λ fault. StopsLastStrictly fault (cut_count lines) (cut_line lines) (W.contents writer.old) (W.contents writer.new) core.old.state core.new.state) }
+    ensures ok { OnOk result ((text : List ℕ)
+        × AnswersStrictly true core.old.state (cut_line lines) text core.new.state
+        × Appends (W.contents writer.old) (W.contents writer.new) text) }
+    ensures fault { IfErr result
+        (λ fault. StopsLastStrictly fault (cut_count lines) (cut_line lines) (W.contents writer.old)
+        (W.contents writer.new) core.old.state core.new.state) }
 {
     let reply = strict_reply_to(alloc, lines.line(), core)?;
     write_out(writer, reply.text.as_bytes())?;

@@ -9,7 +9,8 @@ use std::io::Write;
 /// Writes bytes, all of them or a front.
 pub fn write_out<W: Write>(writer: &mut W, bytes: &[u8]) -> Result<(), PlayFault>
     ensures ok { OnOk result (Appends (W.contents writer.old) (W.contents writer.new) bytes.now) }
-    ensures err { OnErr result (WritesPart (W.contents writer.old) (W.contents writer.new) bytes.now) }
+    ensures err { OnErr result
+        (WritesPart (W.contents writer.old) (W.contents writer.new) bytes.now) }
     ensures cause { IfErr result (λ fault. fault ≡ PlayFault.Write) }
 {
     let mut rest = bytes;

@@ -15,7 +15,7 @@ use Rattle.ft_serial.specs.declared.asked.Asked.{Asked}
 use Rattle.ft_serial.specs.declared.walk.Walk.{Walk}
 use Rattle.ft_serial.specs.Serials.{committed_calls, committed_in}
 use Rattle.ft_serial.specs.Asked.{Lists, calls_in}
-use Rattle.ft_serial.specs.Commits.{but_last, given_by}
+use Rattle.ft_serial.specs.CommittedCalls.{but_last, given_by}
 use Rattle.ft_serial.specs.Walks.{Stamps, standing_call, HasCommitted, IsWalk, IsWalkOf, IsNext}
 use Rattle.ft_serial.proofs.Taking.{given-first}
 

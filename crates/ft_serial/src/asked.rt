@@ -22,7 +22,9 @@ pub(crate) fn push_call(
     top: TxnId,
     call: Asked,
 ) -> Result<(), Memory>
-    ensures ok { OnOk result ((t : ℕ) → calls_in table.new t ≡ cond (t == top) (calls_in table.old t ++ call ∷ []) (calls_in table.old t)) }
+    ensures ok { OnOk result ((t : ℕ)
+        → calls_in table.new t ≡ cond (t == top) (calls_in table.old t ++ call
+        ∷ []) (calls_in table.old t)) }
     ensures err { OnErr result ((t : ℕ) → calls_in table.new t ≡ calls_in table.old t) }
 {
     if let Some(calls) = table.get_mut(top.0) {

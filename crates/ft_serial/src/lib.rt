@@ -3,11 +3,11 @@
 #![tactic(auto)]
 
 mod asked;
-mod commits;
+mod committed_calls;
 pub mod laws;
 mod order;
+mod top_level;
 mod walk;
-mod way;
 
-pub use commits::Commits;
+pub use committed_calls::CommittedCalls;
 pub use order::serial;

@@ -10,8 +10,8 @@ ghost use Rattle.ft_history.specs.Serial.{open_part};
 ghost use Rattle.ft_serial.specs.Serials.{serial_calls, stamped};
 ghost use Rattle.ft_serial.specs.Walks.{call_of, is_open_call, IsWalk};
 
+use crate::top_level::find_top;
 use crate::walk::Walk;
-use crate::way::way_up;
 use ft_base::Memory;
 use ft_calls::StampedCall;
 use ft_core::{Core, Event, State, TxnId};
@@ -40,7 +40,8 @@ pub fn serial(core: &Recorded) -> Result<Vec<StampedCall>, Memory>
 /// stamps.
 fn list_open(core: &Recorded, walk: &Walk, calls: &mut Vec<StampedCall>) -> Result<(), Memory>
     requires { IsWalk 0 walk.now core.now.state.events calls.old.items }
-    ensures { OnOk result (calls.new.items ≡ calls.old.items ++ map stamped (open_part posix_calls (history core.now.state))) }
+    ensures { OnOk result (calls.new.items ≡ calls.old.items
+        ++ map stamped (open_part posix_calls (history core.now.state))) }
 {
     let events = core.history();
     for place in 0..events.len() {
@@ -66,11 +67,12 @@ fn copy_at(alloc: Global, events: &[Event], place: usize) -> Result<Option<Stamp
     }))
 }
 
-/// Whether a standing call was granted at a place among the events, and its top-level transaction
-/// has not committed.
+/// Returns whether a standing call was granted at a place among the events, and its top-level
+/// transaction has not committed.
 fn is_open_at(core: &Recorded, walk: &Walk, place: usize) -> bool
     requires { IsReached core.now }
-    ensures { result ≡ is_open_call (finite.contains_key walk.now.undone) (history core.now.state) (slice_get core.now.state.events place) }
+    ensures { result ≡ is_open_call (finite.contains_key walk.now.undone) (history core.now.state)
+        (slice_get core.now.state.events place) }
 {
     let Some(Event::Call { stamp, txn, .. }) = core.history().get(place) else {
         return false;
@@ -78,12 +80,13 @@ fn is_open_at(core: &Recorded, walk: &Walk, place: usize) -> bool
     walk.stands(core.core(), *stamp, *txn) && !has_committed(core.core(), *txn)
 }
 
-/// Whether the top-level transaction at or above a transaction has committed.
+/// Returns whether the top-level transaction at or above a transaction has committed.
 fn has_committed(core: &Core, txn: TxnId) -> bool
     requires { IsReached core.now }
-    ensures { result ≡ is_committed posix_calls (history core.now.state) (root (parent_of posix_calls (history core.now.state)) txn) }
+    ensures { result ≡ is_committed posix_calls (history core.now.state)
+        (root (parent_of posix_calls (history core.now.state)) txn) }
 {
-    match core.fate(way_up(core, txn).top) {
+    match core.fate(find_top(core, txn).top) {
         Some(State::Committed) => true,
         Some(State::Live | State::Aborted) => false,
         None => false,

@@ -7,7 +7,7 @@ ghost use Rattle.ft_core.specs.Reached.{IsReached};
 ghost use Rattle.ft_serial.specs.Walks.{stands as stands_in, IsWalk, IsWalkOf, IsTaken, IsNext};
 
 use crate::asked::{Asked, forget_all, push_call};
-use crate::way::way_up;
+use crate::top_level::find_top;
 use ft_base::{Memory, Table};
 use ft_calls::StampedCall;
 use ft_core::laws::reached;
@@ -51,7 +51,9 @@ impl Walk {
         core: &Core,
         events: &[Event],
     ) -> Result<Option<StampedCall>, Memory>
-        ensures next { (given : List CallValue) (n : ℕ) → events.now ≡ drop n core.now.state.events → IsWalkOf n self.old core.now.state given → IsNext n self.new core.now.state given result }
+        ensures next { (given : List CallValue) (n : ℕ) → events.now ≡ drop n core.now.state.events
+            → IsWalkOf n self.old core.now.state given
+            → IsNext n self.new core.now.state given result }
         ensures reached { IsReached core.now }
     {
         reached(core);
@@ -70,7 +72,8 @@ impl Walk {
     /// memory.
     fn take_closing(&mut self, core: &Core) -> Option<StampedCall>
         requires { IsReached core.now }
-        ensures taken { (given : List CallValue) (n : ℕ) → IsWalkOf n self.old core.now.state given → IsTaken n self.new core.now.state given result }
+        ensures taken { (given : List CallValue) (n : ℕ) → IsWalkOf n self.old core.now.state given
+            → IsTaken n self.new core.now.state given result }
         ensures passed { self.new.passed ≡ self.old.passed }
     {
         while let Some(asked) = self.closing.pop() {
@@ -88,9 +91,12 @@ impl Walk {
     fn pass(&mut self, core: &Core, events: &[Event]) -> Result<(), Memory>
         requires reached { IsReached core.now }
         requires next { self.old.passed < length events.now }
-        ensures ok { OnOk result ((given : List CallValue) (n : ℕ) → events.now ≡ drop n core.now.state.events → IsWalkOf n self.old core.now.state given → self.old.closing.items ≡ [] → IsWalkOf n self.new core.now.state given) }
+        ensures ok { OnOk result ((given : List CallValue) (n : ℕ)
+            → events.now ≡ drop n core.now.state.events → IsWalkOf n self.old core.now.state given
+            → self.old.closing.items ≡ [] → IsWalkOf n self.new core.now.state given) }
         ensures passed { OnOk result (self.new.passed ≡ self.old.passed + 1) }
-        ensures err { OnErr result ((given : List CallValue) (n : ℕ) → IsWalkOf n self.old core.now.state given → IsWalkOf n self.new core.now.state given) }
+        ensures err { OnErr result ((given : List CallValue) (n : ℕ)
+            → IsWalkOf n self.old core.now.state given → IsWalkOf n self.new core.now.state given) }
     {
         match &events[self.passed] {
             Event::Call {
@@ -99,7 +105,7 @@ impl Walk {
                 call,
                 ..
             } => {
-                let top = way_up(core, *txn).top;
+                let top = find_top(core, *txn).top;
                 let call = call.copy(self.alloc)?;
                 let call = StampedCall {
                     stamp: *stamp,
@@ -127,12 +133,13 @@ impl Walk {
         Ok(())
     }
 
-    /// Whether a call that was granted is standing: it is not undone, and neither its asker nor an
-    /// ancestor of that is aborted.
+    /// Returns whether a call that was granted is standing: it is not undone, and neither its asker
+    /// nor an ancestor of that is aborted.
     pub(crate) fn stands(&self, core: &Core, stamp: u64, txn: TxnId) -> bool
         requires { IsReached core.now }
-        ensures { result ≡ stands_in (finite.contains_key self.now.undone) (history core.now.state) stamp txn }
+        ensures { result ≡ stands_in (finite.contains_key self.now.undone) (history core.now.state)
+            stamp txn }
     {
-        !self.undone.contains(stamp) && !way_up(core, txn).is_gone
+        !self.undone.contains(stamp) && !find_top(core, txn).is_gone
     }
 }

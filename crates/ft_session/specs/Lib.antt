@@ -1,3 +1,4 @@
+-- What callers cite.
 pub mod Buffers
 pub mod Parts
 pub mod Sessions

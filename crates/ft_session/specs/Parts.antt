@@ -5,9 +5,9 @@ use Rattle.ft_posix.specs.declared.call.Reply.{Reply}
 use Rattle.ft_posix.specs.declared.call.Reply.TheVariants.{Names, Bytes}
 use Rattle.ft_core.specs.declared.request.Answer.{Answer}
 use Rattle.ft_core.specs.declared.request.Answer.TheVariants.{Granted, Waits}
-use Rattle.ft_replies.specs.Texts.{text_of}
-use Rattle.ft_session.specs.declared.last.Last.{Last}
-use Rattle.ft_session.specs.declared.last.Last.TheVariants as last
+use Rattle.ft_line.specs.Texts.{text_of}
+use Rattle.ft_session.specs.declared.last_answer.LastAnswer.{LastAnswer}
+use Rattle.ft_session.specs.declared.last_answer.LastAnswer.TheVariants as last
 
 -- the names that a reply lists
 abbrev pub names_of : Reply → List (List ℕ × Kind)
@@ -35,21 +35,21 @@ blockers_answered (Waits blockers) = blockers
 blockers_answered other = []
 
 -- the names that a list has answered
-abbrev pub names_in : Last → List (List ℕ × Kind)
+abbrev pub names_in : LastAnswer → List (List ℕ × Kind)
 names_in (last.Answer answer) = names_answered answer
 names_in (last.Text text) = []
 
 -- the transactions for which a call waits
-abbrev pub blockers_in : Last → List ℕ
+abbrev pub blockers_in : LastAnswer → List ℕ
 blockers_in (last.Answer answer) = blockers_answered answer
 blockers_in (last.Text text) = []
 
 -- the bytes that a read, or a read of a target, has answered
-abbrev pub bytes_in : Last → Option (List ℕ)
+abbrev pub bytes_in : LastAnswer → Option (List ℕ)
 bytes_in (last.Answer answer) = bytes_answered answer
 bytes_in (last.Text text) = None
 
 -- the reply as a script shows it, with its line feed
-abbrev pub reply_text : Last → List ℕ
+abbrev pub reply_text : LastAnswer → List ℕ
 reply_text (last.Answer answer) = text_of answer ++ 10 ∷ []
 reply_text (last.Text text) = text

@@ -3,10 +3,10 @@ use Rattle.std.specs.Prelude.{◌≡◌, ◌⊎◌, ℕ, List, [], MatchBool}
 use Rattle.ft_core.specs.declared.request.Request.{Request}
 use Rattle.ft_core.specs.declared.request.Answer.{Answer}
 use Rattle.ft_core.specs.Steps.{IsStep, exact_rule}
-use Rattle.ft_replies.specs.declared.line.Line.{Line}
-use Rattle.ft_replies.specs.declared.line.Line.TheVariants as line
-use Rattle.ft_replies.specs.Lines.{GivesText, IsReport}
-use Rattle.ft_session.specs.declared.last.Last.TheVariants as last
+use Rattle.ft_line.specs.declared.line.ScriptLine.{ScriptLine}
+use Rattle.ft_line.specs.declared.line.ScriptLine.TheVariants as line
+use Rattle.ft_line.specs.Lines.{GivesText, IsReport}
+use Rattle.ft_session.specs.declared.last_answer.LastAnswer.TheVariants as last
 use Rattle.ft_session.specs.declared.session.Session.{Session}
 use Rattle.ft_session.specs.Turns.{IsFairly}
 
@@ -31,16 +31,16 @@ IsSame old new = (new.core.state ≡ old.core.state) × (new.last ≡ old.last) 
 
 -- The session after a line that was carried out: a request, as that; a report has its text kept,
 -- and a line that is not a valid request an empty text.
-abbrev pub IsCarriedOut : Session → Line → Session → Type 0
-IsCarriedOut old (line.Request request) new = (answer : Answer) × HasAnswered old request answer new
-IsCarriedOut old (line.Report report) new = (text : List ℕ) × IsReport old.core.state report text × (new.core.state ≡ old.core.state) × (new.last ≡ last.Text text) × KeepsTurns old new
-IsCarriedOut old line.Silent new = (new.core.state ≡ old.core.state) × (new.last ≡ last.Text []) × KeepsTurns old new
-IsCarriedOut old line.Bad new = ⊥
+abbrev pub IsExecuted : Session → ScriptLine → Session → Type 0
+IsExecuted old (line.Request request) new = (answer : Answer) × HasAnswered old request answer new
+IsExecuted old (line.Query report) new = (text : List ℕ) × IsReport old.core.state report text × (new.core.state ≡ old.core.state) × (new.last ≡ last.Text text) × KeepsTurns old new
+IsExecuted old line.Silent new = (new.core.state ≡ old.core.state) × (new.last ≡ last.Text []) × KeepsTurns old new
+IsExecuted old line.Bad new = ⊥
 
 -- the text for the line is kept
-abbrev pub HasTold : Session → Line → Session → Type 0
+abbrev pub HasTold : Session → ScriptLine → Session → Type 0
 HasTold old line new = (text : List ℕ) × GivesText old.core.state line text new.core.state × (new.last ≡ last.Text text)
 
 -- the line was not carried out, or its text is lost
-abbrev pub MayHaveTold : Session → Line → Session → Type 0
+abbrev pub MayHaveTold : Session → ScriptLine → Session → Type 0
 MayHaveTold old line new = ((new.core.state ≡ old.core.state) ⊎ ((text : List ℕ) × GivesText old.core.state line text new.core.state)) × (new.last ≡ old.last)

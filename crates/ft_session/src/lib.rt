@@ -3,10 +3,10 @@
 #![tactic(auto)]
 
 mod copying;
-mod last;
+mod last_answer;
 mod session;
 mod turns;
 
 pub use copying::copy_into;
-pub use last::Last;
+pub use last_answer::LastAnswer;
 pub use session::{LineFault, Session};

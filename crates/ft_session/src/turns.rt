@@ -10,14 +10,15 @@ use crate::session::Session;
 use ft_base::Memory;
 use ft_calls::Call;
 use ft_core::{Answer, Fault, Outcome, Request, TxnId};
-use ft_replies::carry_out;
+use ft_line::execute;
 use ft_waits::ahead_of;
 
 impl Session {
     /// Returns the blockers of the call that a transaction waits for now, in rising order; none if
     /// it waits for no call.
     pub fn blockers(&self, txn: TxnId) -> Result<Vec<TxnId>, Memory>
-        ensures { IfOk result (λ blockers. AreInTheWay self.now.is_fair self.now.core.state self.now.turns.items txn blockers.items) }
+        ensures { IfOk result (λ blockers. AreInTheWay self.now.is_fair self.now.core.state
+            self.now.turns.items txn blockers.items) }
     {
         if !self.is_fair {
             let blockers = self.core.blockers_behind(txn, &[])?;
@@ -29,8 +30,9 @@ impl Session {
     }
 
     /// Carries out a request, if calls wait in turn.
-    pub(crate) fn carry_out_fairly(&mut self, request: Request) -> Answer
-        ensures fairly { IsFairly self.old.core.state self.old.turns.items request result self.new.core.state self.new.turns.items }
+    pub(crate) fn execute_fairly(&mut self, request: Request) -> Answer
+        ensures fairly { IsFairly self.old.core.state self.old.turns.items request result
+            self.new.core.state self.new.turns.items }
         ensures fair { self.new.is_fair ≡ self.old.is_fair }
         ensures last { self.new.last ≡ self.old.last }
     {
@@ -43,13 +45,16 @@ impl Session {
                 let outcome = self.retry_in_turn(txn);
                 answer_of(outcome)
             }
-            request => carry_out(&mut self.core, request),
+            request => execute(&mut self.core, request),
         }
     }
 
     /// Requests a call in the turn of its transaction.
     fn ask_in_turn(&mut self, txn: TxnId, call: Call) -> Result<Outcome, Fault>
-        ensures turn { IsInTurn self.old.core.state self.old.turns.items txn (λ keeps. (keeps ≡ true) ↔ (finite.get self.old.core.state.asks txn ≡ Some call)) (Ask txn call) (answer_with outcome_answer result) self.new.core.state self.new.turns.items }
+        ensures turn { IsInTurn self.old.core.state
+            self.old.turns.items txn (λ keeps. (keeps ≡ true)
+            ↔ (finite.get self.old.core.state.asks txn ≡ Some call)) (Ask txn call)
+            (answer_with outcome_answer result) self.new.core.state self.new.turns.items }
         ensures fair { self.new.is_fair ≡ self.old.is_fair }
         ensures last { self.new.last ≡ self.old.last }
     {
@@ -64,7 +69,9 @@ impl Session {
 
     /// Requests again, in its turn, the call that a transaction waits for.
     fn retry_in_turn(&mut self, txn: TxnId) -> Result<Outcome, Fault>
-        ensures turn { IsInTurn self.old.core.state self.old.turns.items txn (λ keeps. keeps ≡ true) (Retry txn) (answer_with outcome_answer result) self.new.core.state self.new.turns.items }
+        ensures turn { IsInTurn self.old.core.state self.old.turns.items txn (λ keeps. keeps
+            ≡ true) (Retry txn) (answer_with outcome_answer result) self.new.core.state
+            self.new.turns.items }
         ensures fair { self.new.is_fair ≡ self.old.is_fair }
         ensures last { self.new.last ≡ self.old.last }
     {
@@ -79,7 +86,9 @@ impl Session {
     /// Takes these turns if a call has to wait.
     fn take_turns(&mut self, outcome: &Result<Outcome, Fault>, turns: Vec<TxnId>)
         ensures others { self.new ≡ record self.old { turns = self.new.turns } }
-        ensures turns { self.new.turns.items ≡ turns_after (answer_with outcome_answer outcome.now) self.old.turns.items turns.items }
+        ensures turns { self.new.turns.items
+            ≡ turns_after (answer_with outcome_answer outcome.now) self.old.turns.items
+            turns.items }
     {
         match outcome {
             Ok(Outcome::Waits { .. }) => self.turns = turns,
@@ -91,7 +100,8 @@ impl Session {
     /// Returns the turns when a transaction asks for a call, and keeps its own or gets the last
     /// one.
     fn turns_for(&self, txn: TxnId, keeps: bool) -> Result<Vec<TxnId>, Memory>
-        ensures { IfOk result (λ turns. turns.items ≡ turns_for self.now.core.state self.now.turns.items txn keeps) }
+        ensures { IfOk result (λ turns. turns.items
+            ≡ turns_for self.now.core.state self.now.turns.items txn keeps) }
     {
         let mut turns = self.kept_turns(txn, keeps)?;
         if is_among(turns.as_slice(), txn) {
@@ -103,7 +113,8 @@ impl Session {
 
     /// Returns the turns that are kept when a transaction asks for a call.
     fn kept_turns(&self, txn: TxnId, keeps: bool) -> Result<Vec<TxnId>, Memory>
-        ensures { IfOk result (λ turns. turns.items ≡ kept_turns self.now.core.state self.now.turns.items txn keeps) }
+        ensures { IfOk result (λ turns. turns.items
+            ≡ kept_turns self.now.core.state self.now.turns.items txn keeps) }
     {
         let turns = self
             .turns
@@ -114,15 +125,16 @@ impl Session {
         Ok(turns)
     }
 
-    /// Whether the turn of a transaction is kept when one asks for a call.
+    /// Returns whether the turn of a transaction is kept when one asks for a call.
     fn is_kept(&self, other: TxnId, txn: TxnId, keeps: bool) -> bool
-        ensures { result ≡ (is_some (finite.get self.now.core.state.asks other) && (keeps || not (other == txn))) }
+        ensures { result ≡ (is_some (finite.get self.now.core.state.asks other)
+            && (keeps || not (other == txn))) }
     {
         self.core.is_waiting(other) && (keeps || other != txn)
     }
 }
 
-/// Whether a transaction is in a list.
+/// Returns whether a transaction is in a list.
 fn is_among(list: &[TxnId], txn: TxnId) -> bool
     ensures { result ≡ list_any (λ x. x == txn) list.now }
 {

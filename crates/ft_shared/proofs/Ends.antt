@@ -6,7 +6,7 @@ use Rattle.ft_core.specs.declared.request.Request.TheVariants.{Abort, Undo}
 use Rattle.ft_core.specs.Promises.{IsJustMade, RanAlone}
 use Rattle.ft_core.specs.States.{State, tree_of, count_standing}
 use Rattle.ft_core.specs.Steps.{IsStep, exact_rule, answer_with}
-use Rattle.ft_shared.specs.Behind.{IsAborted, IsUndone}
+use Rattle.ft_shared.specs.Guarded.{IsAborted, IsUndone}
 
 module _ (old new : State) (t : ℕ) (result : Result ℕ Fault) where
   pub aborted_is : IsStep exact_rule old (Abort t) (answer_with Aborted result) new

@@ -5,12 +5,12 @@ use mathlib.Core.List.{IsPrefix}
 use Rattle.ft_core.specs.States.{State, StoredState}
 use Rattle.ft_core.specs.Reached.{IsReached}
 use Rattle.ft_core.specs.declared.fault.Fault.{Fault}
-use Rattle.ft_book.proofs.Fronts.{prefix_self, prefix_trans}
+use Rattle.ft_view.proofs.Prefixes.{prefix_self, prefix_trans}
 use Rattle.ft_record.specs.Going.{GoesOn}
 use Rattle.ft_serial.proofs.Moving.{first-committed}
 use Rattle.ft_serial.specs.Serials.{committed_in, committed_calls}
 use Rattle.ft_shared.specs.Publishing.{Calls, Publishing, published_in, IsPublisherOf, HasPublisher, IsBehind}
-use Rattle.ft_shared.specs.Behind.{OfCoreFrom}
+use Rattle.ft_shared.specs.Guarded.{OfCoreFrom}
 use Rattle.ft_shared.specs.Origins.{Origin}
 
 -- each state goes on from itself, and so on

@@ -1,5 +1,7 @@
-pub mod Sharing
-pub mod Behind
+-- What callers cite.
+pub mod Guarded
 pub mod Origins
 pub mod Publishing
 pub mod Opening
+-- What the crate keeps true of itself.
+pub mod Sharing

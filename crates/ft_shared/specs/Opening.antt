@@ -6,7 +6,7 @@ use Rattle.ft_cells.specs.Plain.{PlainTree}
 use Rattle.ft_core.specs.declared.fault.Fault.TheVariants.{Live}
 use Rattle.ft_core.specs.Living.{SomeIsLive, NoneIsLive}
 use Rattle.ft_core.specs.States.{State, StoredState, coded_stored}
-use Rattle.ft_book.specs.Names.{Fronted}
+use Rattle.ft_view.specs.ViewNames.{SeenPrefix}
 use Rattle.ft_view.specs.Shown.{Shown}
 use Rattle.ft_view.specs.declared.reader.ViewFault.TheVariants.{Memory}
 use Rattle.ft_shared.specs.Origins.{Origin}
@@ -23,14 +23,14 @@ abbrev pub coded_opening : Coded Opening
 coded_opening = code_by (StoredState × Book) (coded× coded_stored book_coded) (λ o. (o.core, o.book)) (λ p. record { core = p.0; book = p.1 }) (λ _. refl)
 
 -- Both copies are this tree, with nothing in their list.
-pub record AreCopies (base : PlainTree) (book : Book) (nothing : Fronted) (first second : Shown) : Type 0 where
+pub record AreCopies (base : PlainTree) (book : Book) (nothing : SeenPrefix) (first second : Shown) : Type 0 where
   pub of_book : nothing.book ≡ book
   pub empty : nothing.calls ≡ []
   pub one : first ≡ record { tree = base; front = nothing }
   pub other : second ≡ record { tree = base; front = nothing }
 
 -- the tree is that of the core's base
-abbrev pub IsOpened : State → Book → Fronted → Shown → Shown → Type 0
+abbrev pub IsOpened : State → Book → SeenPrefix → Shown → Shown → Type 0
 IsOpened core book nothing first second = AreCopies core.base.tree book nothing first second
 
 -- what a name of them names: the core as it is now, with these views

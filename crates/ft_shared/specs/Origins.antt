@@ -2,12 +2,12 @@
 use Rattle.std.specs.Prelude.{◌≡◌, ◌⊎◌, Bool, false, List, []}
 use Rattle.logbook.specs.Pages.{Book}
 use Rattle.ft_posix.specs.declared.stamped.StampedCall.{StampedCall}
-use Rattle.ft_moss.specs.declared.rule.Rule.TheVariants.{Profile}
+use Rattle.ft_lock_rules.specs.declared.rule.Rule.TheVariants.{Profile}
 use Rattle.ft_core.specs.Limits.{default_limits}
 use Rattle.ft_core.specs.States.{State, first_state}
-use Rattle.ft_book.specs.Names.{Views, no_views}
+use Rattle.ft_view.specs.ViewNames.{Views, no_views}
 use Rattle.ft_serial.specs.Serials.{committed_calls}
-use Rattle.ft_shared.specs.Behind.{OfCoreFrom}
+use Rattle.ft_shared.specs.Guarded.{OfCoreFrom}
 
 -- what was shared: the state of the core at that time, whether it has views, and their book
 pub record Origin : Type 0 where

@@ -9,12 +9,12 @@ use Rattle.ft_posix.specs.contracts.stamped.StampedCall as stamped
 use Rattle.ft_core.specs.declared.fault.Fault.{Fault}
 use Rattle.ft_core.specs.declared.fault.Fault.TheVariants.{Memory as MemoryFault, NoViews}
 use Rattle.ft_core.specs.States.{State, StoredState, coded_stored}
-use Rattle.ft_book.specs.Names.{Views, Fronted, coded_calls}
+use Rattle.ft_view.specs.ViewNames.{Views, SeenPrefix, coded_calls}
 use Rattle.ft_view.specs.declared.view.Published.{Published}
 use Rattle.ft_view.specs.Shown.{Shown, IsReplayOf, IsViewOf, advanced}
 use Rattle.ft_core.specs.declared.request.Event.{Event}
 use Rattle.ft_core.specs.contracts.request.Event as event
-use Rattle.ft_serial.specs.Commits.{GoneOver}
+use Rattle.ft_serial.specs.CommittedCalls.{GoneOver}
 use Rattle.ft_serial.specs.Serials.{committed_in}
 use Rattle.ft_record.specs.Going.{GoesOn}
 use Rattle.ft_shared.specs.Origins.{Origin}
@@ -58,7 +58,7 @@ pub record IsPublished (shown : Shown) (behind : ℕ) (log : List Published) (sh
 -- The shown list is a view of these. With the pending calls it is a replay, of the list that the
 -- writer was given; the book has the same list, or the held call too; and all that was taken from
 -- the core was given or is held, and has committed there.
-pub record IsPublishing (opened : Views) (shows : Calls → Type 0) (book : Book) (shown : Shown) (behind : ℕ) (log : List Published) (fed told : Fronted) (held : Option StampedCall) (commits : GoneOver) : Type 0 where
+pub record IsPublishing (opened : Views) (shows : Calls → Type 0) (book : Book) (shown : Shown) (behind : ℕ) (log : List Published) (fed told : SeenPrefix) (held : Option StampedCall) (commits : GoneOver) : Type 0 where
   pub of_book : book ≡ opened.book
   pub fed_of : fed.book ≡ opened.book
   pub told_of : told.book ≡ opened.book

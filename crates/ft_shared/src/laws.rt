@@ -1,3 +1,3 @@
 //! Laws of the core behind the lock of a `Shared`, to be cited.
 
-pub use crate::behind::Behind;
+pub use crate::guarded::Guarded;

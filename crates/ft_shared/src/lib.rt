@@ -2,7 +2,7 @@
 //! are wanted, and the trait of what job threads ask of it.
 #![tactic(auto)]
 
-mod behind;
+mod guarded;
 pub mod laws;
 mod manager;
 mod opened;

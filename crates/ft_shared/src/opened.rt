@@ -5,17 +5,16 @@ ghost use Rattle.ft_core.specs.Living.{NoneIsLive};
 ghost use Rattle.ft_view.specs.Replay.{IsReadable};
 ghost use Rattle.ft_shared.specs.Opening.{named_by, AreCopies, IsRefused, IsNameless};
 
-use crate::behind::Behind;
+use crate::guarded::Guarded;
 use crate::publisher::{Blank, Publisher};
 use crate::shareable::Shareable;
 use crate::shared::Shared;
 use crate::sharing::{Sharing, ViewsOf};
 use ft_base::Memory;
-use ft_book::Book;
 use ft_core::Fault;
 use ft_record::Recorded;
 use ft_tree::Tree;
-use ft_view::{Reader, View, ViewFault};
+use ft_view::{PublishLog, Reader, View, ViewFault};
 use std::alloc::Global;
 use std::marker::Model;
 use std::sync::Wait;
@@ -37,7 +36,9 @@ impl<C: Shareable> Model for Opened<C> {
 
     ghost view = { λ a. record { core = C.stored a.core; book = a.blank.book } };
 
-    ghost invariant = { λ a. (C.forgotten a.core ≡ Some 0) × IsOpened (C.stored a.core).state a.blank.book a.blank.nothing a.blank.first a.blank.second };
+    ghost invariant = { λ a. (C.forgotten a.core ≡ Some 0)
+        × IsOpened (C.stored a.core).state a.blank.book a.blank.nothing a.blank.first
+        a.blank.second };
 }
 
 /// The reason why a core has no views: it can't be shared, or there was not enough memory or no
@@ -62,7 +63,10 @@ pub struct ViewsRefused<C = Recorded> {
 pub fn with_views<C: Shareable>(core: C) -> Result<Opened<C>, ViewsRefused<C>>
     requires kept { C.forgotten core ≡ Some 0 }
     requires base { C.knows_base core }
-    ensures { MatchResult result (λ opened. (opened.core ≡ C.stored core) × NoneIsLive (C.stored core).state) (λ refused. (refused.core ≡ core) × IsRefused (C.stored core).state refused.cause) }
+    ensures { MatchResult result
+        (λ opened. (opened.core ≡ C.stored core)
+        × NoneIsLive (C.stored core).state) (λ refused. (refused.core ≡ core)
+        × IsRefused (C.stored core).state refused.cause) }
 {
     if core.core().has_live() {
         return Err(ViewsRefused {
@@ -82,10 +86,11 @@ pub fn with_views<C: Shareable>(core: C) -> Result<Opened<C>, ViewsRefused<C>>
 /// Two copies of the base, with nothing of a new book.
 fn blank(alloc: Global, base: &Tree) -> Result<Blank, Memory>
     requires { IsReadable base.now }
-    ensures { IfOk result (λ blank. AreCopies (tidy base.now) blank.book blank.nothing blank.first blank.second) }
+    ensures { IfOk result (λ blank. AreCopies (tidy base.now) blank.book blank.nothing blank.first
+        blank.second) }
 {
     let (first, second) = (base.copy()?, base.copy()?);
-    let (book, nothing) = Book::new();
+    let (book, nothing) = PublishLog::new();
     Ok(Blank {
         book,
         first: View::new(alloc, first, nothing.again()),
@@ -105,7 +110,8 @@ impl<C: Shareable> Opened<C> {
     ) -> Result<(Shared<J, C>, Reader<ViewsOf<J>>), ViewsRefused<C>>
         requires { named_by self ≡ J.origin }
         ensures reader { IfOk result (λ named. named.1 ≡ []) }
-        ensures refused { IfErr result (λ refused. (C.stored refused.core ≡ self.core) × IsNameless refused.cause) }
+        ensures refused { IfErr result
+            (λ refused. (C.stored refused.core ≡ self.core) × IsNameless refused.cause) }
     {
         let Opened { core, blank } = self;
         let alloc = core.core().alloc();
@@ -121,7 +127,7 @@ impl<C: Shareable> Opened<C> {
         };
         match publisher.reader() {
             Ok(inner) => {
-                let shared = Shared::over(Behind::with_views(core, publisher));
+                let shared = Shared::over(Guarded::with_views(core, publisher));
                 Ok((shared, Reader::new(alloc, inner, nothing)))
             }
             Err(fault) => {

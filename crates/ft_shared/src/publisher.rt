@@ -6,11 +6,13 @@ ghost use Rattle.ft_shared.specs.Publishing.{IsPublishable, IsPublished, listed}
 
 use core::mem::replace_with;
 use ft_base::Memory;
-use ft_book::{Book, Front, Naming};
 use ft_calls::StampedCall;
 use ft_core::{Core, Event};
-use ft_serial::Commits;
-use ft_view::{Inner, Published, Receipt, Shows, View, ViewFault, Writing};
+use ft_serial::CommittedCalls;
+use ft_view::{
+    Prefix, PublishLog, Published, Receipt, View, ViewFault, ViewHandle, ViewStep, ViewWriter,
+    ViewsBrand,
+};
 use std::alloc::Global;
 use std::marker::Model;
 use std::sync::Wait;
@@ -19,42 +21,49 @@ use std::sync::Wait;
 pub const MOST_READERS: usize = 64;
 
 /// The publisher of the committed calls of a core. It is not `Drop`: end it by `end`.
-pub(crate) struct Publisher<J: Naming> {
-    book: Book,
-    writer: Writing<J>,
+pub(crate) struct Publisher<J: ViewsBrand> {
+    book: PublishLog,
+    writer: ViewWriter<J>,
     // The committed calls that were taken from the core.
-    commits: Commits,
+    commits: CommittedCalls,
     // The list that the writer was given.
-    fed: Front,
+    fed: Prefix,
     // The list that the book has: the same, or one call more, if there was no memory to give it.
-    told: Front,
+    told: Prefix,
     // A call that was taken from the core, and not yet given to the writer.
     held: Option<StampedCall>,
 }
 
-impl<J: Naming> Model for Publisher<J> {
+impl<J: ViewsBrand> Model for Publisher<J> {
     ghost use Rattle.ft_shared.specs.Publishing.{Publishing, coded_publishing, IsPublishing};
 
     ghost Value = { Publishing };
 
     ghost coded = { coded_publishing };
 
-    ghost view = { λ a. record { published = a.writer.desk.shown.value.front.calls; fed = a.fed.calls; told = a.told.calls; held = a.held; commits = a.commits } };
+    ghost view = { λ a. record {
+      published = a.writer.desk.shown.value.front.calls;
+      fed = a.fed.calls;
+      told = a.told.calls;
+      held = a.held;
+      commits = a.commits;
+    } };
 
-    ghost invariant = { λ a. IsPublishing J.opened J.shows a.book a.writer.desk.shown.value a.writer.behind a.writer.log.items a.fed a.told a.held a.commits };
+    ghost invariant = { λ a. IsPublishing J.opened J.shows a.book a.writer.desk.shown.value
+        a.writer.behind a.writer.log.items a.fed a.told a.held a.commits };
 }
 
 /// The parts of a publisher: a book, the front that has seen nothing of it, and two equal views of
 /// the base.
 #[derive(Drop)]
 pub(crate) struct Blank {
-    pub(crate) book: Book,
-    pub(crate) nothing: Front,
+    pub(crate) book: PublishLog,
+    pub(crate) nothing: Prefix,
     pub(crate) first: View,
     pub(crate) second: View,
 }
 
-impl<J: Naming> Publisher<J> {
+impl<J: ViewsBrand> Publisher<J> {
     /// Nothing is published.
     pub(crate) fn new(alloc: Global, blank: Blank) -> Result<Publisher<J>, Memory>
         requires book { (blank.book ≡ J.opened.book) × (blank.nothing.book ≡ J.opened.book) }
@@ -72,11 +81,11 @@ impl<J: Naming> Publisher<J> {
             first,
             second,
         } = blank;
-        match Writing::new(alloc, first, second, MOST_READERS) {
+        match ViewWriter::new(alloc, first, second, MOST_READERS) {
             Ok(writer) => Ok(Publisher {
                 book,
                 writer,
-                commits: Commits::new(alloc),
+                commits: CommittedCalls::new(alloc),
                 fed: nothing.again(),
                 told: nothing,
                 held: None,
@@ -86,7 +95,7 @@ impl<J: Naming> Publisher<J> {
     }
 
     /// Returns what looks at the views. Refuses NoReader.
-    pub(crate) fn reader(&self) -> Result<Inner<J>, ViewFault> {
+    pub(crate) fn reader(&self) -> Result<ViewHandle<J>, ViewFault> {
         self.writer
             .factory()
             .reader()
@@ -160,20 +169,26 @@ impl<J: Naming> Publisher<J> {
         ensures passed { IsPrefix self.new.commits.events core.now.state.events }
         ensures published { self.new.published ≡ self.old.published }
         ensures forgotten { self.new.commits.forgotten ≡ self.old.commits.forgotten }
-        ensures taken { OnOk result (self.new.commits.given ≡ self.old.commits.given ++ listed self.new.held) }
+        ensures taken { OnOk result (self.new.commits.given ≡ self.old.commits.given
+            ++ listed self.new.held) }
         ensures first { IsPrefix self.new.commits.given (committed_calls core.now.state) }
-        ensures gone { IfOk result (λ more. MatchBool more (IsSome self.new.held) (self.new.commits.events ≡ core.now.state.events)) }
-        ensures more { IfOk result (λ more. MatchBool more (IsSome self.new.held) (self.new.fed ≡ committed_calls core.now.state)) }
+        ensures gone { IfOk result
+            (λ more. MatchBool more (IsSome self.new.held) (self.new.commits.events
+            ≡ core.now.state.events)) }
+        ensures more { IfOk result
+            (λ more. MatchBool more (IsSome self.new.held) (self.new.fed
+            ≡ committed_calls core.now.state)) }
     {
         self.held = self.commits.next(core, events)?;
         Ok(self.held.is_some())
     }
 }
 
-impl<J: Naming> Publisher<J> {
+impl<J: ViewsBrand> Publisher<J> {
     /// Gives the writer the call that is held, if one is. After lack of memory it is held still.
     fn give(&mut self) -> Result<(), Memory>
-        ensures others { (self.new.published ≡ self.old.published) × (self.new.commits ≡ self.old.commits) }
+        ensures others { (self.new.published ≡ self.old.published)
+            × (self.new.commits ≡ self.old.commits) }
         ensures given { OnOk result (self.new.held ≡ None) }
     {
         self.tell()?;
@@ -182,7 +197,8 @@ impl<J: Naming> Publisher<J> {
 
     /// Gives the book the call that is held, if the book has not got it.
     fn tell(&mut self) -> Result<(), Memory>
-        ensures others { (self.new.published ≡ self.old.published) × (self.new.fed ≡ self.old.fed) × (self.new.held ≡ self.old.held) × (self.new.commits ≡ self.old.commits) }
+        ensures others { (self.new.published ≡ self.old.published) × (self.new.fed ≡ self.old.fed)
+            × (self.new.held ≡ self.old.held) × (self.new.commits ≡ self.old.commits) }
         ensures told { OnOk result (self.new.told ≡ self.old.fed ++ listed self.old.held) }
     {
         let Some(call) = &self.held else {
@@ -192,7 +208,7 @@ impl<J: Naming> Publisher<J> {
             return Ok(());
         }
         // The book has gone on without this publisher only if another one had it, and none has.
-        let Some(told) = self.told.with(&self.book, call) else {
+        let Some(told) = self.told.append(&self.book, call) else {
             return Err(Memory);
         };
         self.told = told;
@@ -202,9 +218,12 @@ impl<J: Naming> Publisher<J> {
     /// Gives the writer the call that is held, which the book has got.
     fn append(&mut self) -> Result<(), Memory>
         requires { self.old.told ≡ self.old.fed ++ listed self.old.held }
-        ensures others { (self.new.published ≡ self.old.published) × (self.new.commits ≡ self.old.commits) }
-        ensures fed { OnOk result ((self.new.fed ≡ self.old.fed ++ listed self.old.held) × (self.new.held ≡ None)) }
-        ensures same { OnErr result ((self.new.fed ≡ self.old.fed) × (self.new.held ≡ self.old.held)) }
+        ensures others { (self.new.published ≡ self.old.published)
+            × (self.new.commits ≡ self.old.commits) }
+        ensures fed { OnOk result ((self.new.fed ≡ self.old.fed ++ listed self.old.held)
+            × (self.new.held ≡ None)) }
+        ensures same { OnErr result ((self.new.fed ≡ self.old.fed)
+            × (self.new.held ≡ self.old.held)) }
     {
         let Some(call) = self.held.take() else {
             return Ok(());
@@ -233,9 +252,11 @@ impl<J: Naming> Publisher<J> {
         replace_with(
             &mut self.writer,
             rt,
-            |writer: Writing<J>, rt: &R| -> (Writing<J>, Result<(), Memory>)
-                requires { IsPublishable J.opened J.shows writer.desk.shown.value writer.behind writer.log.items }
-                ensures { IsPublished writer.desk.shown.value writer.behind writer.log.items result.0.desk.shown.value result.0.behind result.0.log.items result.1 }
+            |writer: ViewWriter<J>, rt: &R| -> (ViewWriter<J>, Result<(), Memory>)
+                requires { IsPublishable J.opened J.shows writer.desk.shown.value writer.behind
+                    writer.log.items }
+                ensures { IsPublished writer.desk.shown.value writer.behind writer.log.items
+                    result.0.desk.shown.value result.0.behind result.0.log.items result.1 }
             { shown(writer, rt) },
         )
     }
@@ -255,10 +276,15 @@ impl<J: Naming> Publisher<J> {
 }
 
 /// Shows what is pending.
-fn shown<J: Naming, R: Wait>(writer: Writing<J>, rt: &R) -> (Writing<J>, Result<(), Memory>)
-    requires { IsPublishable J.opened J.shows writer.desk.shown.value writer.behind writer.log.items }
-    ensures { IsPublished writer.desk.shown.value writer.behind writer.log.items result.0.desk.shown.value result.0.behind result.0.log.items result.1 }
+fn shown<J: ViewsBrand, R: Wait>(
+    writer: ViewWriter<J>,
+    rt: &R,
+) -> (ViewWriter<J>, Result<(), Memory>)
+    requires { IsPublishable J.opened J.shows writer.desk.shown.value writer.behind
+        writer.log.items }
+    ensures { IsPublished writer.desk.shown.value writer.behind writer.log.items
+        result.0.desk.shown.value result.0.behind result.0.log.items result.1 }
 {
-    let (writer, shown) = writer.publish_as::<Shows<J>, R>(rt);
+    let (writer, shown) = writer.publish_as::<ViewStep<J>, R>(rt);
     (writer, shown.map_err(|_| Memory))
 }

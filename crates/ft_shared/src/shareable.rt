@@ -8,7 +8,7 @@ ghost use Rattle.ft_core.specs.Journals.{IsBaseTree};
 ghost use Rattle.ft_core.specs.States.{StoredState, at_base};
 ghost use Rattle.ft_core.specs.Steps.{IsStep, exact_rule, answer_with, outcome_answer};
 ghost use Rattle.ft_core.specs.Sweeps.{HasNoUselessPlace};
-ghost use Rattle.ft_shared.specs.Behind.{IsAborted, IsUndone};
+ghost use Rattle.ft_shared.specs.Guarded.{IsAborted, IsUndone};
 ghost use Rattle.ft_shared.specs.Sharing.{events_kept};
 
 use ft_calls::Call;
@@ -51,51 +51,63 @@ pub trait Shareable {
     fn forget(&mut self) -> bool
         ensures core { stored self.new ≡ stored self.old }
         ensures told { result ≡ forgets }
-        ensures forgotten { forgotten self.new ≡ cond result (Some (length (stored self.old).state.events)) (forgotten self.old) };
+        ensures forgotten { forgotten self.new
+            ≡ cond result (Some (length (stored self.old).state.events)) (forgotten self.old) };
 
     /// Begins a top-level transaction, as `Core::begin` does.
     fn begin(&mut self) -> Result<TxnId, Fault>
-        ensures step { IsStep exact_rule (stored self.old).state Begin (answer_with Txn result) (stored self.new).state }
+        ensures step { IsStep exact_rule (stored self.old).state Begin (answer_with Txn result)
+            (stored self.new).state }
         ensures forgotten { forgotten self.new ≡ forgotten self.old };
 
     /// Begins a subtransaction, as `Core::sub` does.
     fn sub(&mut self, parent: TxnId) -> Result<TxnId, Fault>
-        ensures step { IsStep exact_rule (stored self.old).state (Sub parent) (answer_with Txn result) (stored self.new).state }
+        ensures step { IsStep exact_rule (stored self.old).state (Sub parent)
+            (answer_with Txn result) (stored self.new).state }
         ensures forgotten { forgotten self.new ≡ forgotten self.old };
 
     /// Makes a call, as `Core::ask` does.
     fn ask(&mut self, txn: TxnId, call: Call) -> Result<Outcome, Fault>
-        ensures step { IsStep exact_rule (stored self.old).state (Ask txn call) (answer_with outcome_answer result) (stored self.new).state }
+        ensures step { IsStep exact_rule (stored self.old).state (Ask txn call)
+            (answer_with outcome_answer result) (stored self.new).state }
         ensures forgotten { forgotten self.new ≡ forgotten self.old };
 
     /// Makes a copy of a call, as `Core::ask_copy` does.
     fn ask_copy(&mut self, txn: TxnId, call: &Call) -> Result<Outcome, Fault>
-        ensures step { IsStep exact_rule (stored self.old).state (Ask txn call.now) (answer_with outcome_answer result) (stored self.new).state }
+        ensures step { IsStep exact_rule (stored self.old).state (Ask txn call.now)
+            (answer_with outcome_answer result) (stored self.new).state }
         ensures forgotten { forgotten self.new ≡ forgotten self.old };
 
     /// Makes the call that a transaction waits for, as `Core::retry` does.
     fn retry(&mut self, txn: TxnId) -> Result<Outcome, Fault>
-        ensures step { IsStep exact_rule (stored self.old).state (Retry txn) (answer_with outcome_answer result) (stored self.new).state }
+        ensures step { IsStep exact_rule (stored self.old).state (Retry txn)
+            (answer_with outcome_answer result) (stored self.new).state }
         ensures forgotten { forgotten self.new ≡ forgotten self.old };
 
     /// Forgets the call that a transaction waits for, as `Core::drop_ask` does.
     fn drop_ask(&mut self, txn: TxnId) -> Result<(), Fault>
-        ensures step { IsStep exact_rule (stored self.old).state (DropAsk txn) (answer_with (λ done. Dropped) result) (stored self.new).state }
+        ensures step { IsStep exact_rule
+            (stored self.old).state (DropAsk txn) (answer_with (λ done. Dropped) result)
+            (stored self.new).state }
         ensures forgotten { forgotten self.new ≡ forgotten self.old };
 
     /// Commits a transaction, as `Core::commit` does.
     fn commit(&mut self, txn: TxnId) -> Result<(), Fault>
-        ensures step { IsStep exact_rule (stored self.old).state (Commit txn) (answer_with (λ done. Committed) result) (stored self.new).state }
+        ensures step { IsStep exact_rule
+            (stored self.old).state (Commit txn) (answer_with (λ done. Committed) result)
+            (stored self.new).state }
         ensures forgotten { forgotten self.new ≡ forgotten self.old };
 
     /// Aborts a transaction, as `Core::abort` does.
     fn abort(&mut self, txn: TxnId) -> Result<u64, Fault>
-        ensures step { IsAborted (stored self.old).state txn (answer_with Aborted result) (stored self.new).state }
+        ensures step { IsAborted (stored self.old).state txn (answer_with Aborted result)
+            (stored self.new).state }
         ensures forgotten { forgotten self.new ≡ forgotten self.old };
 
     /// Undoes a transaction's last call, as `Core::undo_call` does.
     fn undo_call(&mut self, txn: TxnId) -> Result<u64, Fault>
-        ensures step { IsUndone (stored self.old).state txn (answer_with Undone result) (stored self.new).state }
+        ensures step { IsUndone (stored self.old).state txn (answer_with Undone result)
+            (stored self.new).state }
         ensures forgotten { forgotten self.new ≡ forgotten self.old };
 
     /// Drops places of the tree that are of no use any more, as `Core::sweep` does.
@@ -112,7 +124,8 @@ impl Shareable for Core {
     ghost forgets = { false };
 
     // Nothing has happened since.
-    ghost knows_base = { λ core. core.state ≡ at_base core.state.rule core.state.limits core.state.base };
+    ghost knows_base = { λ core. core.state
+        ≡ at_base core.state.rule core.state.limits core.state.base };
 
     fn core(&self) -> &Core {
         self
@@ -180,7 +193,8 @@ impl Shareable for Recent {
     ghost forgets = { true };
 
     // Nothing has happened since.
-    ghost knows_base = { λ recent. recent.core.state ≡ at_base recent.core.state.rule recent.core.state.limits recent.core.state.base };
+    ghost knows_base = { λ recent. recent.core.state
+        ≡ at_base recent.core.state.rule recent.core.state.limits recent.core.state.base };
 
     fn core(&self) -> &Core {
         self.core()

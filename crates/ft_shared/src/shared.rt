@@ -11,11 +11,11 @@ ghost use Rattle.ft_waits.specs.Waits.{IsVerdict};
 ghost use Rattle.ft_core.specs.Reached.{IsReached};
 ghost use Rattle.ft_record.specs.Going.{GoesOn};
 ghost use Rattle.ft_serial.specs.Serials.{committed_calls};
-ghost use Rattle.ft_shared.specs.Behind.{OfCoreFrom, InCoreFrom, IsAborted, IsUndone};
+ghost use Rattle.ft_shared.specs.Guarded.{OfCoreFrom, InCoreFrom, IsAborted, IsUndone};
 ghost use Rattle.ft_shared.specs.Origins.{without_views};
 ghost use Rattle.ft_shared.specs.Publishing.{fault_of_publish};
 
-use crate::behind::Behind;
+use crate::guarded::Guarded;
 use crate::shareable::Shareable;
 use crate::sharing::{Sharing, ViewsOf};
 use ft_base::Memory;
@@ -45,7 +45,7 @@ pub const MOST_PAUSE: u64 = 5;
 /// There is no checkpoint here: once as many transactions were begun, or calls granted, since the
 /// base as the limits of the core allow, it is `Full` for good, until `into_core` gives it back.
 pub struct Shared<J: Sharing = Brand, C: Shareable = Recorded> {
-    behind: Mutex<Behind<J, C>>,
+    behind: Mutex<Guarded<J, C>>,
     // For copies of calls, which are made before the lock is got.
     alloc: Global,
     // A transaction has committed or is aborted.
@@ -65,7 +65,10 @@ impl<J: Sharing, C: Shareable> Shared<J, C> {
     /// Refuses Live if a transaction is live, and hands the core back.
     pub fn new(core: C) -> Result<Shared<J, C>, Refused<C>>
         requires { without_views (C.stored core).state ≡ J.origin }
-        ensures { MatchResult result (λ shared. NoneIsLive (C.stored core).state) (λ refused. (refused.core ≡ core) × (refused.fault ≡ LiveFault) × SomeIsLive (C.stored core).state) }
+        ensures { MatchResult result
+            (λ shared. NoneIsLive (C.stored core).state)
+            (λ refused. (refused.core ≡ core) × (refused.fault ≡ LiveFault)
+            × SomeIsLive (C.stored core).state) }
     {
         if core.core().has_live() {
             return Err(Refused {
@@ -73,11 +76,11 @@ impl<J: Sharing, C: Shareable> Shared<J, C> {
                 fault: Fault::Live,
             });
         }
-        Ok(Shared::over(Behind::alone(core)))
+        Ok(Shared::over(Guarded::alone(core)))
     }
 
     /// Puts a core behind a lock, with its views if it has any.
-    pub(crate) fn over(behind: Behind<J, C>) -> Shared<J, C> {
+    pub(crate) fn over(behind: Guarded<J, C>) -> Shared<J, C> {
         Shared {
             alloc: behind.core().alloc(),
             behind: Mutex::new(behind),
@@ -89,7 +92,8 @@ impl<J: Sharing, C: Shareable> Shared<J, C> {
     ///
     /// Refuses Full if there are as many transactions as there may be.
     pub fn begin<R: Wait>(&self, rt: &R) -> Result<TxnId, Fault>
-        ensures some_core { InCoreFrom J.origin.from (λ old new. IsStep exact_rule old Begin (answer_with Txn result) new) }
+        ensures some_core { InCoreFrom
+            J.origin.from (λ old new. IsStep exact_rule old Begin (answer_with Txn result) new) }
     {
         let mut behind = self.held(rt);
         let answer = behind.begin();
@@ -101,7 +105,9 @@ impl<J: Sharing, C: Shareable> Shared<J, C> {
     ///
     /// Refuses NoTxn, Ended, Deep if the parent is as deep as one may be, and Full, in this order.
     pub fn sub<R: Wait>(&self, rt: &R, parent: TxnId) -> Result<TxnId, Fault>
-        ensures some_core { InCoreFrom J.origin.from (λ old new. IsStep exact_rule old (Sub parent) (answer_with Txn result) new) }
+        ensures some_core { InCoreFrom
+            J.origin.from (λ old new. IsStep exact_rule old (Sub parent) (answer_with Txn result)
+            new) }
     {
         let mut behind = self.held(rt);
         let answer = behind.sub(parent);
@@ -113,7 +119,9 @@ impl<J: Sharing, C: Shareable> Shared<J, C> {
     ///
     /// Refuses NoTxn, Ended, and Full if as many calls are granted as may be, in this order.
     pub fn ask<R: Wait>(&self, rt: &R, txn: TxnId, call: Call) -> Result<Outcome, Fault>
-        ensures some_core { InCoreFrom J.origin.from (λ old new. IsStep exact_rule old (Ask txn call) (answer_with outcome_answer result) new) }
+        ensures some_core { InCoreFrom
+            J.origin.from (λ old new. IsStep exact_rule old (Ask txn call)
+            (answer_with outcome_answer result) new) }
     {
         let mut behind = self.held(rt);
         let answer = behind.ask(txn, call);
@@ -138,7 +146,9 @@ impl<J: Sharing, C: Shareable> Shared<J, C> {
         turns: u64,
     ) -> Result<Outcome, Fault>
         requires { 1 ≤ turns }
-        ensures some_core { InCoreFrom J.origin.from (λ old new. IsStep exact_rule old (Ask txn call.now) (answer_with outcome_answer result) new) }
+        ensures some_core { InCoreFrom
+            J.origin.from (λ old new. IsStep exact_rule old (Ask txn call.now)
+            (answer_with outcome_answer result) new) }
     {
         for _ in 1..turns {
             match self.turn(rt, txn, call) {
@@ -151,7 +161,9 @@ impl<J: Sharing, C: Shareable> Shared<J, C> {
 
     /// Asks once, for a copy of the call.
     fn turn<R: Wait>(&self, rt: &R, txn: TxnId, call: &Call) -> Result<Outcome, Fault>
-        ensures some_core { InCoreFrom J.origin.from (λ old new. IsStep exact_rule old (Ask txn call.now) (answer_with outcome_answer result) new) }
+        ensures some_core { InCoreFrom
+            J.origin.from (λ old new. IsStep exact_rule old (Ask txn call.now)
+            (answer_with outcome_answer result) new) }
     {
         match call.copy(self.alloc) {
             Ok(copy) => self.ask(rt, txn, copy),
@@ -162,7 +174,9 @@ impl<J: Sharing, C: Shareable> Shared<J, C> {
 
     /// Makes a copy of a call, as `ask` makes a call. The copy is made while the lock is held.
     fn ask_copy<R: Wait>(&self, rt: &R, txn: TxnId, call: &Call) -> Result<Outcome, Fault>
-        ensures some_core { InCoreFrom J.origin.from (λ old new. IsStep exact_rule old (Ask txn call.now) (answer_with outcome_answer result) new) }
+        ensures some_core { InCoreFrom
+            J.origin.from (λ old new. IsStep exact_rule old (Ask txn call.now)
+            (answer_with outcome_answer result) new) }
     {
         let mut behind = self.held(rt);
         let answer = behind.ask_copy(txn, call);
@@ -189,7 +203,9 @@ impl<J: Sharing, C: Shareable> Shared<J, C> {
     ///
     /// Refuses NoTxn, Ended, NoAsk, and Full if as many calls are granted as may be, in this order.
     pub fn retry<R: Wait>(&self, rt: &R, txn: TxnId) -> Result<Outcome, Fault>
-        ensures some_core { InCoreFrom J.origin.from (λ old new. IsStep exact_rule old (Retry txn) (answer_with outcome_answer result) new) }
+        ensures some_core { InCoreFrom
+            J.origin.from (λ old new. IsStep exact_rule old (Retry txn)
+            (answer_with outcome_answer result) new) }
     {
         let mut behind = self.held(rt);
         let answer = behind.retry(txn);
@@ -201,7 +217,9 @@ impl<J: Sharing, C: Shareable> Shared<J, C> {
     ///
     /// Refuses NoTxn, Ended and NoAsk, in this order.
     pub fn drop_ask<R: Wait>(&self, rt: &R, txn: TxnId) -> Result<(), Fault>
-        ensures some_core { InCoreFrom J.origin.from (λ old new. IsStep exact_rule old (DropAsk txn) (answer_with (λ done. Dropped) result) new) }
+        ensures some_core { InCoreFrom
+            J.origin.from (λ old new. IsStep exact_rule old (DropAsk txn)
+            (answer_with (λ done. Dropped) result) new) }
     {
         let mut behind = self.held(rt);
         let answer = behind.drop_ask(txn);
@@ -215,7 +233,9 @@ impl<J: Sharing, C: Shareable> Shared<J, C> {
     ///
     /// Refuses NoTxn, Ended, and ChildLive if it has a live child, in this order.
     pub fn commit<R: Wait>(&self, rt: &R, txn: TxnId) -> Result<(), Fault>
-        ensures some_core { InCoreFrom J.origin.from (λ old new. IsStep exact_rule old (Commit txn) (answer_with (λ done. Committed) result) new) }
+        ensures some_core { InCoreFrom
+            J.origin.from (λ old new. IsStep exact_rule old (Commit txn)
+            (answer_with (λ done. Committed) result) new) }
     {
         let mut behind = self.held(rt);
         let answer = behind.commit(txn);
@@ -231,7 +251,8 @@ impl<J: Sharing, C: Shareable> Shared<J, C> {
     ///
     /// Refuses NoTxn and Ended, in this order.
     pub fn abort<R: Wait>(&self, rt: &R, txn: TxnId) -> Result<u64, Fault>
-        ensures some_core { InCoreFrom J.origin.from (λ old new. IsAborted old txn (answer_with Aborted result) new) }
+        ensures some_core { InCoreFrom
+            J.origin.from (λ old new. IsAborted old txn (answer_with Aborted result) new) }
     {
         let mut behind = self.held(rt);
         let answer = behind.abort(txn);
@@ -248,7 +269,8 @@ impl<J: Sharing, C: Shareable> Shared<J, C> {
     /// Refuses, in this order, NoTxn, Ended, ChildLive, and then NothingToUndo if there is none or
     /// SubSince if a child has committed since.
     pub fn undo_call<R: Wait>(&self, rt: &R, txn: TxnId) -> Result<u64, Fault>
-        ensures some_core { InCoreFrom J.origin.from (λ old new. IsUndone old txn (answer_with Undone result) new) }
+        ensures some_core { InCoreFrom
+            J.origin.from (λ old new. IsUndone old txn (answer_with Undone result) new) }
     {
         let mut behind = self.held(rt);
         let answer = behind.undo_call(txn);
@@ -261,7 +283,8 @@ impl<J: Sharing, C: Shareable> Shared<J, C> {
     ///
     /// Out of memory is the only refusal.
     pub fn waits<R: Wait>(&self, rt: &R) -> Result<(Vec<Edge>, Verdict), Memory>
-        ensures edges { IfOk result (λ told. OfCoreFrom J.origin.from (λ state. AreEdgesOf state told.0.items)) }
+        ensures edges { IfOk result
+            (λ told. OfCoreFrom J.origin.from (λ state. AreEdgesOf state told.0.items)) }
         ensures verdict { IfOk result (λ told. IsVerdict told.0.items told.1) }
     {
         let edges = self.list_edges(rt)?;
@@ -271,7 +294,8 @@ impl<J: Sharing, C: Shareable> Shared<J, C> {
     /// Returns the waits-for edges of the core, each once, in their order. The lock is free when it
     /// returns.
     fn list_edges<R: Wait>(&self, rt: &R) -> Result<Vec<Edge>, Memory>
-        ensures { IfOk result (λ edges. OfCoreFrom J.origin.from (λ state. AreEdgesOf state edges.items)) }
+        ensures { IfOk result (λ edges. OfCoreFrom
+            J.origin.from (λ state. AreEdgesOf state edges.items)) }
     {
         let behind = self.held(rt);
         let edges = edges(behind.core());
@@ -288,7 +312,8 @@ impl<J: Sharing, C: Shareable> Shared<J, C> {
     /// Refuses NoViews if the core has none, and then Memory, and then nothing more is published.
     pub fn publish<R: Wait>(&self, rt: &R) -> Result<(u64, Receipt<ViewsOf<J>>), Fault>
         ensures count { IfOk result (λ told. told.0 ≡ length told.1) }
-        ensures committed { IfOk result (λ told. OfCoreFrom J.origin.from (λ state. told.1 ≡ committed_calls state)) }
+        ensures committed { IfOk result
+            (λ told. OfCoreFrom J.origin.from (λ state. told.1 ≡ committed_calls state)) }
         ensures shown { OnOk result (IsTrue J.origin.shown) }
         ensures fault { IfErr result (λ fault. fault ≡ fault_of_publish J.origin.shown) }
     {
@@ -313,7 +338,7 @@ impl<J: Sharing, C: Shareable> Shared<J, C> {
 
     /// Gets the lock. The history of the core behind it is legal, from a sound base, and goes on
     /// from what was shared.
-    fn held<R: Wait>(&self, rt: &R) -> MutexGuard<'_, Behind<J, C>>
+    fn held<R: Wait>(&self, rt: &R) -> MutexGuard<'_, Guarded<J, C>>
         ensures reached { IsReached (mutex_guard_value result).core }
         ensures goes_on { GoesOn J.origin.from (mutex_guard_value result).core.state }
     {
@@ -323,7 +348,7 @@ impl<J: Sharing, C: Shareable> Shared<J, C> {
     }
 }
 
-/// Whether these transactions are all live.
+/// Returns whether these transactions are all live.
 fn are_live(core: &Core, txns: &[TxnId]) -> bool {
     txns.iter()
         .all(|txn| matches!(core.fate(*txn), Some(State::Live)))

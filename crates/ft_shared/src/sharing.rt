@@ -1,5 +1,5 @@
 // The shared state, and the views of it, as proofs name them.
-use ft_view::Naming;
+use ft_view::ViewsBrand;
 use std::marker::{Brand, PhantomData};
 
 /// The shared state: that of the core at that time, whether it has views, and their book. It is
@@ -25,7 +25,7 @@ pub struct ViewsOf<J: Sharing> {
     of: PhantomData<J>,
 }
 
-impl<J: Sharing> Naming for ViewsOf<J> {
+impl<J: Sharing> ViewsBrand for ViewsOf<J> {
     ghost use Rattle.ft_shared.specs.Origins.{views_of, IsWhole};
 
     ghost opened = { views_of J.origin };

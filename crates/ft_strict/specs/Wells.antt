@@ -6,7 +6,7 @@ use Rattle.ft_core.specs.declared.request.Answer.{Answer}
 use Rattle.ft_core.specs.declared.request.Answer.TheVariants.{Txn, Granted, Waits, Dropped, Committed, Aborted, Undone, Cleared, Refused}
 use Rattle.ft_core.specs.declared.request.Request.{Request}
 use Rattle.ft_core.specs.States.{State}
-use Rattle.ft_replies.specs.Lines.{IsLegal}
+use Rattle.ft_line.specs.Lines.{IsLegal}
 
 -- a request was granted, and did not fail
 abbrev pub is_well : Answer → Bool

@@ -3,10 +3,10 @@ ghost use Rattle.std.specs.Prelude.{◌≡◌, ◌⊎◌, ℕ, Bool, List, strin
 ghost use Rattle.ft_strict.specs.Strict.{AnswersStrictly, Does, Tells};
 
 use crate::line::strict_line_of;
-use crate::well::{is_well, try_carry_out};
+use crate::well::{is_well, try_execute};
 use ft_base::Memory;
 use ft_core::{Core, Request};
-use ft_replies::{AnswerText, Line, Report, whole_report_of};
+use ft_line::{AnswerText, Query, ScriptLine, whole_report_of};
 use std::alloc::Global;
 
 /// The reply to a line of a strict script.
@@ -25,9 +25,12 @@ pub struct StrictReply {
 /// Fails only for lack of memory, even for a request or for the contents of a report: then the line
 /// was not carried out, or there was no memory for the text of its reply.
 pub fn strict_reply_to(alloc: Global, line: &[u8], core: &mut Core) -> Result<StrictReply, Memory>
-    ensures ok { IfOk result (λ reply. AnswersStrictly reply.goes_on core.old.state line.now (string_bytes reply.text) core.new.state) }
+    ensures ok { IfOk result
+        (λ reply. AnswersStrictly reply.goes_on core.old.state line.now (string_bytes reply.text)
+        core.new.state) }
     ensures err { OnErr result ((core.new.state ≡ core.old.state)
-        ⊎ ((on : Bool) × (text : List ℕ) × AnswersStrictly on core.old.state line.now text core.new.state)) }
+        ⊎ ((on : Bool) × (text : List ℕ)
+        × AnswersStrictly on core.old.state line.now text core.new.state)) }
 {
     let line = strict_line_of(alloc, line)?;
     let (text, well) = reply_to_meaning(alloc, line.meaning, core)?;
@@ -37,40 +40,50 @@ pub fn strict_reply_to(alloc: Global, line: &[u8], core: &mut Core) -> Result<St
     })
 }
 
-// Carries out the request of a line, and returns the text of its reply, and whether it did that.
-fn reply_to_meaning(alloc: Global, line: Line, core: &mut Core) -> Result<(String, bool), Memory>
-    ensures ok { IfOk result (λ reply. Does reply.1 core.old.state line (string_bytes reply.0) core.new.state) }
+/// Carries out the request of a line. Returns the text of its reply, and whether the line did what
+/// it requests.
+fn reply_to_meaning(
+    alloc: Global,
+    line: ScriptLine,
+    core: &mut Core,
+) -> Result<(String, bool), Memory>
+    ensures ok { IfOk result
+        (λ reply. Does reply.1 core.old.state line (string_bytes reply.0) core.new.state) }
     ensures err { OnErr result ((core.new.state ≡ core.old.state)
         ⊎ ((well : Bool) × (text : List ℕ) × Does well core.old.state line text core.new.state)) }
 {
     match line {
-        Line::Silent => Ok((String::new(alloc), true)),
-        Line::Bad => Ok((String::from_str(alloc, "bad line\n")?, false)),
-        Line::Report(report) => reply_to_report(alloc, report, core),
-        Line::Request(request) => reply_to_request(alloc, request, core),
+        ScriptLine::Silent => Ok((String::new(alloc), true)),
+        ScriptLine::Bad => Ok((String::from_str(alloc, "bad line\n")?, false)),
+        ScriptLine::Query(report) => reply_to_report(alloc, report, core),
+        ScriptLine::Request(request) => reply_to_request(alloc, request, core),
     }
 }
 
-// Carries out a request.
+/// Carries out a request. Returns the text of its reply, and whether it did what it requests.
 fn reply_to_request(
     alloc: Global,
     request: Request,
     core: &mut Core,
 ) -> Result<(String, bool), Memory>
-    ensures ok { IfOk result (λ reply. Does reply.1 core.old.state (Line.Request request) (string_bytes reply.0) core.new.state) }
+    ensures ok { IfOk result
+        (λ reply. Does reply.1 core.old.state (ScriptLine.Request request) (string_bytes reply.0)
+        core.new.state) }
     ensures err { OnErr result ((core.new.state ≡ core.old.state)
-        ⊎ ((well : Bool) × (text : List ℕ) × Does well core.old.state (Line.Request request) text core.new.state)) }
+        ⊎ ((well : Bool) × (text : List ℕ)
+        × Does well core.old.state (ScriptLine.Request request) text core.new.state)) }
 {
-    let answer = try_carry_out(core, request)?;
+    let answer = try_execute(core, request)?;
     let text = format!(in alloc; "{}\n", AnswerText(&answer))?;
     Ok((text, is_well(&answer)))
 }
 
-// A report, and whether it is given: a tree is not while a transaction is live.
-fn reply_to_report(alloc: Global, report: Report, core: &Core) -> Result<(String, bool), Memory>
+/// Returns the text of a report, and whether the report is given: a tree is not while a transaction
+/// is live.
+fn reply_to_report(alloc: Global, report: Query, core: &Core) -> Result<(String, bool), Memory>
     ensures { IfOk result (λ reply. Tells reply.1 core.now.state report (string_bytes reply.0)) }
 {
-    if report == Report::Tree && core.has_live() {
+    if report == Query::Tree && core.has_live() {
         return Ok((String::from_str(alloc, "refused Live\n")?, false));
     }
     match whole_report_of(alloc, report, core)? {

@@ -18,11 +18,11 @@ use Rattle.ft_tree.specs.Held.{without_place}
 use Rattle.ft_cells.specs.Plain.{view_in}
 use Rattle.ft_tree.specs.Tidy.{tidy}
 use Rattle.ft_tree.specs.Sound.{IsTree, AreSoundCells}
-use Rattle.ft_tree.specs.Sweep.{at_place, is_spare, one_if, drop_spare, swept_at, dropped_at, places_of_dirs, places_in, IsSwept, IsSweptClean, IsAccounted, HasNoneToDrop, LetGo}
+use Rattle.ft_tree.specs.Sweep.{at_place, is_spare, one_if, drop_spare, swept_at, dropped_at, places_of_dirs, places_in, IsSwept, IsSweptClean, IsAccounted, HasNoneToDrop, ReleasedCells}
 use Rattle.ft_cells.proofs.Splits.{by_test, by_option, unlike, both-left, both-right, both-of, none-right, not-of, tied-is, tied-itself}
 use Rattle.ft_cells.proofs.MapViews.{some_len}
 use Rattle.ft_cells.proofs.Gathered.{weight, weight-insert, weight-remove}
-use Rattle.ft_descriptions.proofs.Opened.{described-open}
+use Rattle.ft_open_files.proofs.Opened.{described-open}
 use Rattle.ft_tree.proofs.Swept.{swept-none, swept-then, same_dirs, spare-before, swept-file, gone-file, swept-fd, gone-fd, swept-dir, gone-dir, dir-same, swept-entry, gone-entry, dir-other}
 use Rattle.ft_tree.proofs.SweptTidy.{tidy-file, tidy-fd, tidy-dir, tidy-entry}
 
@@ -189,13 +189,13 @@ module _ (kept : Cell → Bool) where
   -- All that is let go.
 
   -- How far a sweep has come: of what was let go at first, this is left to take.
-  pub record IsSweeping (first left : LetGo) (old now : Cells) : Type 0 where
+  pub record IsSweeping (first left : ReleasedCells) (old now : Cells) : Type 0 where
     pub swept : IsSwept kept old now
     pub plain : tidy now ≡ tidy old
     pub told : (c : Cell) → set.contains first c ≡ true → set.contains left c ≡ false → is_spare kept now c ≡ false
     pub others : (c : Cell) → is_spare kept now c ≡ true → is_spare kept old c ≡ true
 
-  pub sweeping-first : (first : LetGo) (cells : Cells) → IsSweeping first first cells cells
+  pub sweeping-first : (first : ReleasedCells) (cells : Cells) → IsSweeping first first cells cells
   sweeping-first first cells = record {
     swept = swept-none kept cells;
     plain = refl;
@@ -203,7 +203,7 @@ module _ (kept : Cell → Bool) where
     others = λ c s. s;
   }
 
-  pub sweeping-next : (first left : LetGo) (old now : Cells) (c : Cell) → IsSweeping first left old now → IsSweeping first (set.remove left c) old (swept_at kept now c)
+  pub sweeping-next : (first left : ReleasedCells) (old now : Cells) (c : Cell) → IsSweeping first left old now → IsSweeping first (set.remove left c) old (swept_at kept now c)
   sweeping-next first left old now c h = record {
     swept = swept-then kept old now (swept_at kept now c) h.swept (at-swept now c);
     plain = at-tidy now c ∙ h.plain;
@@ -216,7 +216,7 @@ module _ (kept : Cell → Bool) where
   }
 
   -- of one place, nothing is to be dropped at any of its cells
-  clean : (first : LetGo) (old now : Cells) → IsSweeping first set.empty old now → (c : Cell) → set.contains first c ≡ true → is_spare kept now c ≡ false
+  clean : (first : ReleasedCells) (old now : Cells) → IsSweeping first set.empty old now → (c : Cell) → set.contains first c ≡ true → is_spare kept now c ≡ false
   clean first old now h c was = h.told c was (set.contains-empty cell_cmp c)
 
   one-of : (a b : Bool) {P : Type 0} → (a ≡ true → P) → (b ≡ true → P) → (a || b) ≡ true → P
@@ -224,7 +224,7 @@ module _ (kept : Cell → Bool) where
   one-of false b l r h = r h
 
   -- of three, one was let go
-  one-of_three : (first : LetGo) (old now : Cells) → IsSweeping first set.empty old now → {P : Type 0} (a b c : Cell)
+  one-of_three : (first : ReleasedCells) (old now : Cells) → IsSweeping first set.empty old now → {P : Type 0} (a b c : Cell)
       → (is_spare kept now a ≡ false → P) → (is_spare kept now b ≡ false → P) → (is_spare kept now c ≡ false → P)
       → (set.contains first a || set.contains first b || set.contains first c) ≡ true → P
   one-of_three first old now h a b c f g k was =
@@ -232,7 +232,7 @@ module _ (kept : Cell → Bool) where
       (one-of (set.contains first a) (set.contains first b) (λ t. f (clean first old now h a t)) (λ t. g (clean first old now h b t)))
       (λ t. k (clean first old now h c t)) was
 
-  clean-place : (first : LetGo) (old now : Cells) → IsSweeping first set.empty old now → (c : Cell) → at_place (set.contains first) c ≡ true → is_spare kept now c ≡ false
+  clean-place : (first : ReleasedCells) (old now : Cells) → IsSweeping first set.empty old now → (c : Cell) → at_place (set.contains first) c ≡ true → is_spare kept now c ≡ false
   clean-place first old now h (Entry entry) was = clean first old now h (Entry entry) was
   clean-place first old now h (Names d) was = one-of_three first old now h (Names d) (Parent d) (DirAttributes d) (λ f. f) (λ f. f) (λ f. f) was
   clean-place first old now h (Parent d) was = one-of_three first old now h (Names d) (Parent d) (DirAttributes d) (λ f. f) (λ f. f) (λ f. f) was
@@ -242,12 +242,12 @@ module _ (kept : Cell → Bool) where
   clean-place first old now h (FileAttributes i) was = one-of_three first old now h (Links i) (Bytes i) (FileAttributes i) (λ f. f) (λ f. f) (λ f. f) was
   clean-place first old now h (Fd f) was = clean first old now h (Fd f) was
 
-  pub sweeping-clean : (first : LetGo) (old now : Cells) → IsSweeping first set.empty old now → IsSweptClean kept (set.contains first) old now
+  pub sweeping-clean : (first : ReleasedCells) (old now : Cells) → IsSweeping first set.empty old now → IsSweptClean kept (set.contains first) old now
   sweeping-clean first old now h = record { told = clean-place first old now h; others = h.others }
 
   -- where each place to drop was told, none is left
-  pub clean-none_left : (let_go : Cell → Bool) (old new : Cells) → IsSweptClean kept let_go old new → IsAccounted kept let_go old → HasNoneToDrop kept new
-  clean-none_left let_go old new h all c = by_test (is_spare kept new c)
+  pub clean-none_left : (released_cells : Cell → Bool) (old new : Cells) → IsSweptClean kept released_cells old new → IsAccounted kept released_cells old → HasNoneToDrop kept new
+  clean-none_left released_cells old new h all c = by_test (is_spare kept new c)
       (λ t. unlike t (h.told c (all c (h.others c t))))
       (λ f. f)
 
@@ -299,12 +299,12 @@ module _ (kept : Cell → Bool) where
         attributes = λ d a is. h.dirs d ∙ s.attributes d a (sym (swept-dir_attributes old new h s d) ∙ is);
       }
 
-pub sweeping-step : (kept now_kept : Cell → Bool) (first left rest : LetGo) (old now new : Cells) (c : Cell) → IsSweeping kept first left old now → now_kept ≡ kept → rest ≡ set.remove left c → new ≡ swept_at now_kept now c → IsSweeping kept first rest old new
+pub sweeping-step : (kept now_kept : Cell → Bool) (first left rest : ReleasedCells) (old now new : Cells) (c : Cell) → IsSweeping kept first left old now → now_kept ≡ kept → rest ≡ set.remove left c → new ≡ swept_at now_kept now c → IsSweeping kept first rest old new
 sweeping-step kept now_kept first left rest old now new c h same taken is =
-    subst (λ (p : LetGo × Cells). IsSweeping kept first p.0 old p.1) (λ i. (sym taken i, sym (is ∙ ap (λ k. swept_at k now c) same) i)) (sweeping-next kept first left old now c h)
+    subst (λ (p : ReleasedCells × Cells). IsSweeping kept first p.0 old p.1) (λ i. (sym taken i, sym (is ∙ ap (λ k. swept_at k now c) same) i)) (sweeping-next kept first left old now c h)
 
 -- what was taken out makes it smaller
-pub smaller_set : (s t : LetGo) (c : Cell) → t ≡ set.remove s c → set.contains s c ≡ true → set.len t < set.len s
+pub smaller_set : (s t : ReleasedCells) (c : Cell) → t ≡ set.remove s c → set.contains s c ≡ true → set.len t < set.len s
 smaller_set s t c is there =
     subst (λ n. n < set.len s) (sym (ap set.len is ∙ set.len-remove cell_cmp_total s c ∙ ap (λ b. cond b (set.len s - 1) (set.len s)) there)) (less (set.len s) (by_test (set.len s == 0)
     (λ t. unlike there (ap (λ x. set.contains x c) (set.empty_of_len s (eqb-true (set.len s) 0 t)) ∙ set.contains-empty cell_cmp c))

@@ -16,7 +16,7 @@ use Rattle.ft_cells.specs.Cells.{Cells, DirCells, no_dir, no_file, dir_entry, di
 use Rattle.ft_tree.specs.Held.{IsStored}
 use Rattle.ft_tree.specs.Sweep.{is_useless, at_place, is_spare, IsDeadFile, IsSwept}
 use Rattle.ft_cells.proofs.Splits.{by_test, by_option, unlike, both-left, both-right, both-of, none-left, none-right, not-true, not-of, tied-is, tied-itself}
-use Rattle.ft_descriptions.proofs.Opened.{is_open-remove}
+use Rattle.ft_open_files.proofs.Opened.{is_open-remove}
 
 zero-of : (n : ℕ) → nat_lt 0 n ≡ false → 0 ≡ n
 zero-of zero h = refl

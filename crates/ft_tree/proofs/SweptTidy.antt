@@ -23,7 +23,7 @@ use Rattle.ft_tree.specs.Sweep.{at_place, is_spare}
 use Rattle.ft_cells.proofs.CellViews.{entries-empty}
 use Rattle.ft_cells.proofs.Splits.{by_option, unlike, both-left, both-right, not-true, tied-itself}
 use Rattle.ft_cells.proofs.Gathered.{gather, part, gather-insert, gather-remove}
-use Rattle.ft_descriptions.proofs.Opened.{is_open-remove}
+use Rattle.ft_open_files.proofs.Opened.{is_open-remove}
 use Rattle.ft_tree.proofs.Swept.{no_entries, not_there}
 
 -- The lists as they are gathered, entry by entry.

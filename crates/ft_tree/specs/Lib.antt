@@ -1,3 +1,4 @@
+-- What callers cite.
 pub mod Held
 pub mod Views
 pub mod Walk

@@ -1,5 +1,5 @@
--- The plain tree that the stored cells are. (A rule of this project; that a file which nothing
--- names is gone is POSIX.1-2017, System Interfaces, unlink and close.)
+-- The plain tree of stored cells. (A rule of this project. POSIX.1-2017, System Interfaces, unlink
+-- and close, say that a file which nothing names is removed.)
 use Rattle.std.specs.Prelude.{ℕ, Bool, ◌||◌, nat_lt, List, [], ◌∷◌, ◌++◌, map, filter, Option}
 use Rattle.std.specs.List.{filter_map}
 use Rattle.std.specs.Option.{option_map}
@@ -16,41 +16,41 @@ use Rattle.ft_cells.specs.Plain.{PlainFile, PlainTree}
 abbrev pub edges_at : ℕ × DirCells → List (Entry × Node)
 edges_at e = map (λ x. (entry_at e.0 x.0, x.1)) (dir_names e.1)
 
--- those of all of them
+-- the entries of all stored directories, as edges
 abbrev pub edges_from : List (ℕ × DirCells) → List (Entry × Node)
 edges_from [] = []
 edges_from (e ∷ es) = edges_at e ++ edges_from es
 
--- a directory as the plain tree has it: its number, with its attributes
+-- a directory in the plain tree: its number and its attributes
 abbrev pub member : ℕ × DirCells → ℕ × Option Attributes
 member e = (e.0, e.1.attributes)
 
--- the stored directories that are there
+-- the stored directories that exist
 abbrev pub dirs_from : List (ℕ × DirCells) → List (ℕ × Option Attributes)
 dirs_from es = map member (filter (λ e. is_there e.0 e.1) es)
 
--- a stored file is there while an entry or a description names it
+-- a stored file exists while an entry or a description names it
 abbrev pub is_named : Opens → ℕ × FileCells → Bool
 is_named opens e = nat_lt 0 e.1.links || is_open opens e.0
 
--- a file as the plain tree has it: its number, with its attributes and what it holds
+-- a file in the plain tree: its number, its attributes and what it holds
 abbrev pub plain_file : ℕ × FileCells → ℕ × PlainFile
 plain_file e = (e.0, record { attributes = e.1.attributes; contents = e.1.contents })
 
--- the stored files that are there
+-- the stored files that exist
 abbrev pub files_from : Opens → List (ℕ × FileCells) → List (ℕ × PlainFile)
 files_from opens es = map plain_file (filter (is_named opens) es)
 
--- the description that stands in a place, if there is one
+-- the description in a place, if there is one
 abbrev pub opened : ℕ × Option OpenFile → Option (ℕ × OpenFile)
 opened e = option_map (λ o. (e.0, o)) e.1
 
--- the descriptions that stand in places
+-- the descriptions in places
 abbrev pub opens_from : List (ℕ × Option OpenFile) → List (ℕ × OpenFile)
 opens_from es = filter_map opened es
 
--- the plain tree of cells: their entries, and the directories, files and descriptions that are
--- there, without the empty places and without files that nothing names; it allows what they do
+-- the plain tree of cells: their entries, and the directories, files and descriptions that exist,
+-- without empty places and without files that nothing names; it has the limits of the cells
 abbrev pub tidy : Cells → PlainTree
 tidy cells = record {
   limits = cells.limits;

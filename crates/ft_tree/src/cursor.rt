@@ -1,4 +1,4 @@
-// A tree that is read, one place after another.
+// A reader of a tree that remembers where something was last found.
 ghost use Rattle.std.specs.Prelude.{◌≡◌, ◌↔◌, [], IsTrue, IfOk, refl};
 ghost use Rattle.std.specs.Option.{option_copied};
 ghost use Rattle.ft_cells.specs.Cells.{entry_of, parent_of, dir_attributes_of, links_of, file_attributes_of, names_of, bytes_of, time_of, body_in, open_of};
@@ -11,9 +11,9 @@ use ft_cells::{Attributes, Hint, Node, OpenFile, Timestamp};
 use ft_path::Name;
 use std::marker::Model;
 
-/// A tree that is read, and where in it something was found last.
+/// A tree that is read, with a hint of where something was last found in it.
 ///
-/// To read on from there, as a walk does, takes no look-up of a number.
+/// If reading goes on from there, as in a walk, no number is looked up.
 #[derive(Drop)]
 pub struct Cursor<'t> {
     tree: &'t Tree,
@@ -31,7 +31,7 @@ impl<'t> Model for Cursor<'t> {
 }
 
 impl<'t> Cursor<'t> {
-    /// A tree of which nothing was read yet.
+    /// Returns a cursor on a tree of which nothing was read yet.
     pub fn new(tree: &'t Tree) -> Cursor<'t>
         ensures { result ≡ tree.entry.now }
     {
@@ -41,14 +41,14 @@ impl<'t> Cursor<'t> {
         }
     }
 
-    /// The tree.
+    /// Returns the tree.
     pub fn tree(&self) -> &'t Tree
         ensures { result.now ≡ self.now }
     {
         self.tree
     }
 
-    /// What a name leads to in a directory, as `Tree::entry`.
+    /// Returns what a name leads to in a directory, as `Tree::entry` does.
     pub fn entry(&mut self, dir: u64, name: &Name) -> Option<Node>
         ensures node { result ≡ entry_of self.old dir name.now }
         ensures same { self.new ≡ self.old }
@@ -62,7 +62,7 @@ impl<'t> Cursor<'t> {
         }
     }
 
-    /// The open file description of a descriptor, as `Tree::open_file`.
+    /// Returns the open file description of a descriptor, as `Tree::open_file` does.
     pub fn open_file(&mut self, fd: u64) -> Option<OpenFile>
         ensures open { result ≡ open_of self.old fd }
         ensures same { self.new ≡ self.old }
@@ -72,49 +72,50 @@ impl<'t> Cursor<'t> {
         Some(open)
     }
 
-    /// The directory that has a directory's entry, as `Tree::parent`.
+    /// Returns the parent of a directory, as `Tree::parent` does.
     pub fn parent(&self, dir: u64) -> Option<u64>
         ensures { result ≡ parent_of self.now dir }
     {
         self.tree.parent_near(dir, self.near)
     }
 
-    /// The attributes that are kept of a directory, as `Tree::dir_attributes`.
+    /// Returns the attributes that are stored of a directory, as `Tree::dir_attributes` does.
     pub fn dir_attributes(&self, dir: u64) -> Option<Attributes>
         ensures { result ≡ dir_attributes_of self.now dir }
     {
         self.tree.dir_attributes_near(dir, self.near)
     }
 
-    /// How many entries name a file, as `Tree::links`.
+    /// Returns how many entries name a file, as `Tree::links` does.
     pub fn links(&self, file: u64) -> u64
         ensures { result ≡ links_of self.now file }
     {
         self.tree.links_near(file, self.near)
     }
 
-    /// The attributes that are kept of a file, as `Tree::file_attributes`.
+    /// Returns the attributes that are stored of a file, as `Tree::file_attributes` does.
     pub fn file_attributes(&self, file: u64) -> Option<Attributes>
         ensures { result ≡ file_attributes_of self.now file }
     {
         self.tree.file_attributes_near(file, self.near)
     }
 
-    /// The time of a file's bytes, as `Tree::time`.
+    /// Returns the time of the bytes of a file, as `Tree::time` does.
     pub fn time(&self, file: u64) -> Option<Timestamp>
         ensures { result ≡ time_of self.now file }
     {
         self.tree.time_near(file, self.near)
     }
 
-    /// The bytes of a file, where it is stored, as `Tree::body`.
+    /// Returns the bytes of a file, if it is stored, as `Tree::body` does.
     pub fn body(&self, file: u64) -> Option<&'t Body>
         ensures { option_copied result ≡ body_in self.now file }
     {
         self.tree.body_near(file, self.near)
     }
 
-    /// The target of a symbolic link: all its bytes.
+    /// Returns the target of a symbolic link: all its bytes, or none if it is not stored. Out of
+    /// memory is the only error.
     pub fn target(&self, link: u64) -> Result<Vec<u8>, Memory>
         ensures { IfOk result (λ target. target.items ≡ bytes_of self.now link) }
     {
@@ -124,7 +125,8 @@ impl<'t> Cursor<'t> {
         }
     }
 
-    /// A file's number, to read or write the file later from where something was found last.
+    /// Returns the number of a file with a hint of where something was last found. The file can
+    /// later be read or written from there.
     pub fn hinted(&self, file: u64) -> HintedFile
         ensures { result ≡ file }
     {
@@ -134,7 +136,7 @@ impl<'t> Cursor<'t> {
         }
     }
 
-    /// Whether a directory has no entry, as `Tree::is_empty_dir`.
+    /// Returns whether a directory has no entry, as `Tree::is_empty_dir` does.
     pub fn is_empty_dir(&self, dir: u64) -> bool
         ensures { IsTrue result ↔ (names_of self.now dir ≡ []) }
     {
@@ -142,9 +144,9 @@ impl<'t> Cursor<'t> {
     }
 }
 
-/// The number of a file, with where the file may stand. Clauses see the number.
+/// The number of a file, with a hint of where the file is. Clauses see only the number.
 ///
-/// To read or write the file where it does stand there takes no look-up of the number.
+/// If the hint is right, no number is looked up to read or write the file.
 #[derive(Debug, Drop)]
 pub struct HintedFile {
     pub(crate) number: u64,
@@ -160,14 +162,15 @@ impl Model for HintedFile {
 }
 
 impl HintedFile {
-    /// A file of which nothing was found yet, so that it is sought where the tree was edited last.
+    /// Returns a file number without a hint. The file is then sought where the tree was last
+    /// edited.
     pub fn new(number: u64) -> HintedFile
         ensures { result ≡ number }
     {
         HintedFile { number, near: None }
     }
 
-    /// Another one like it.
+    /// Returns a copy, with the same number and the same hint.
     pub fn again(&self) -> HintedFile
         ensures { result ≡ self.now }
     {
@@ -177,7 +180,7 @@ impl HintedFile {
         }
     }
 
-    /// The number.
+    /// Returns the number of the file.
     pub fn number(&self) -> u64
         ensures { result ≡ self.now }
     {
@@ -185,7 +188,7 @@ impl HintedFile {
     }
 }
 
-/// A tree that is read, and no account kept of what is read.
+/// Reads a tree, and keeps no record of what is read.
 impl<'t> Reader for Cursor<'t> {
     ghost cells = { λ cursor. cursor };
 

@@ -1,12 +1,12 @@
-// The front of a path, and where it leads.
+// The fronts of paths, and where they lead.
 ghost use Rattle.std.specs.Prelude.{◌≡◌, []};
 ghost use Rattle.ft_tree.specs.Fronts.{front_end};
 
 use crate::tree::ROOT;
 use std::alloc::Global;
 
-/// The front of a path: its text up to and with the slash before the last component, and the
-/// directory to which each of its components leads.
+/// The front of a path: its text up to and including the slash before the last component. It also
+/// has the directory to which each of its components leads.
 #[derive(Debug, Drop)]
 pub struct Front {
     pub text: Vec<u8>,
@@ -14,7 +14,7 @@ pub struct Front {
 }
 
 impl Front {
-    /// No text, which leads to the root. Takes no memory.
+    /// Returns a front with no text, which leads to the root. Takes no memory.
     pub fn new(alloc: Global) -> Front
         ensures text { result.text.items ≡ [] }
         ensures dirs { result.dirs.items ≡ [] }
@@ -25,7 +25,7 @@ impl Front {
         }
     }
 
-    /// The directory to which it leads.
+    /// Returns the directory to which the front leads.
     pub fn end(&self) -> u64
         ensures { result ≡ front_end self.now }
     {

@@ -1,19 +1,19 @@
-// Where a path leads, whoever reads the tree.
+// Walks along paths, for any reader of a tree.
 ghost use Rattle.std.specs.Prelude.{◌≡◌, IfOk, OnOk, OnErr};
 ghost use Rattle.ft_cells.specs.Entries.{entry_at};
 ghost use Rattle.ft_cells.specs.declared.cell.Cell.TheVariants.{Entry as EntryCell, Parent, Bytes};
 ghost use Rattle.ft_cells.specs.Cells.{entry_of, parent_of, bytes_of};
-ghost use Rattle.ft_cells.specs.Looks.{answer, looked_at, all_noted};
-ghost use Rattle.ft_tree.specs.Views.{view_of};
+ghost use Rattle.ft_cells.specs.Looks.{answer};
+ghost use Rattle.ft_tree.specs.Views.{view_of, NotesLooks};
 ghost use Rattle.ft_tree.specs.Walk.{Meets, up, inner, last, halted, leg, leg_in, start_of, slash_after, way_behind, onward, walk_on, walk_from, walk};
 
 use crate::tree::ROOT;
 use ft_base::Memory;
-use ft_cells::{Entry, Form, Node, Spot};
+use ft_cells::{Entry, Form, Node, PathEnd};
 use ft_path::{Errno, Name, Names, PartsFault, begins_with_slash, target_parts};
 use std::alloc::Global;
 
-/// How many symbolic links a walk follows at most: {SYMLOOP_MAX}.
+/// The most symbolic links that a walk follows: {SYMLOOP_MAX}.
 pub const MOST_FOLLOWED: u8 = 40;
 
 /// Why a component leads no further: a fault, or a symbolic link that is to be followed.
@@ -23,7 +23,7 @@ pub enum Halt {
     Onto(u64),
 }
 
-/// Where components are to be walked, and whether a slash is behind them.
+/// Components that are to be walked from a directory, and whether a slash follows them.
 #[derive(Drop)]
 pub struct Way {
     pub start: u64,
@@ -31,7 +31,7 @@ pub struct Way {
     pub slash: bool,
 }
 
-/// Components that are walked from a directory, and whether a slash is behind them.
+/// Borrowed components that are walked from a directory, and whether a slash follows them.
 #[derive(Clone, Copy)]
 pub struct Route<'a> {
     pub start: u64,
@@ -39,15 +39,15 @@ pub struct Route<'a> {
     pub slash: bool,
 }
 
-/// Which symbolic links a walk follows: how many more at most, and whether one to which the last
-/// name leads.
+/// The symbolic links that a walk may follow: at most how many more, and whether one to which the
+/// last name leads.
 #[derive(Clone, Copy)]
 struct Following {
     left: u8,
     last: bool,
 }
 
-/// A symbolic link that is to be followed, its directory, and the names behind it.
+/// A symbolic link that is to be followed, its directory, and the names after it.
 #[derive(Clone, Copy)]
 struct Met<'a> {
     link: u64,
@@ -55,14 +55,14 @@ struct Met<'a> {
     names: &'a [Name],
 }
 
-/// Where a leg of a walk ends: where the walk does, or at a symbolic link that is to be followed.
+/// The end of a leg of a walk: the end of the walk, or a symbolic link that is to be followed.
 #[derive(Drop)]
 enum Leg<'a> {
-    Ends(Result<Spot, Errno>),
+    Ends(Result<PathEnd, Errno>),
     Meets(Met<'a>),
 }
 
-/// Who reads a tree for a walk, and may keep account of the cells that were read.
+/// A reader of a tree for walks. It may keep a record of the cells that were read.
 pub trait Reader {
     ghost use Rattle.ft_cells.specs.declared.cell.Cell.{Cell};
     ghost use Rattle.ft_cells.specs.Cells.{Cells};
@@ -70,48 +70,56 @@ pub trait Reader {
     /// The tree that is read.
     ghost cells: { Self → Cells };
 
-    /// How it stands when a cell was read.
+    /// The state of the reader after a cell was read.
     ghost noted: { Self → Cell → Self };
 
-    /// What a name leads to in a directory.
+    /// Returns what a name leads to in a directory, if it is an entry. Out of memory is the only
+    /// error.
     fn entry(&mut self, dir: u64, name: &Name) -> Result<Option<Node>, Memory>
         ensures node { IfOk result (λ node. node ≡ entry_of (cells self.old) dir name.now) }
-        ensures noted { OnOk result (self.new ≡ noted self.old (EntryCell (entry_at dir name.now))) }
+        ensures noted { OnOk result (self.new
+            ≡ noted self.old (EntryCell (entry_at dir name.now))) }
         ensures wanting { OnErr result (cells self.new ≡ cells self.old) };
 
-    /// The directory that has a directory's entry.
+    /// Returns the parent of a directory, if it has one. Out of memory is the only error.
     fn parent(&mut self, dir: u64) -> Result<Option<u64>, Memory>
         ensures parent { IfOk result (λ parent. parent ≡ parent_of (cells self.old) dir) }
         ensures noted { OnOk result (self.new ≡ noted self.old (Parent dir)) }
         ensures wanting { OnErr result (cells self.new ≡ cells self.old) };
 
-    /// The target of a symbolic link.
+    /// Returns the target of a symbolic link. Out of memory is the only error.
     fn target(&mut self, link: u64) -> Result<Vec<u8>, Memory>
         ensures target { IfOk result (λ target. target.items ≡ bytes_of (cells self.old) link) }
         ensures noted { OnOk result (self.new ≡ noted self.old (Bytes link)) }
         ensures wanting { OnErr result (cells self.new ≡ cells self.old) };
 
-    /// The tree stays what it is.
+    /// Reading a cell does not change the tree.
     ghost stays: { (reader : Self) (cell : Cell) → cells (noted reader cell) ≡ cells reader };
 }
 
-/// Where a path's components lead, from the root: pathname resolution (POSIX.1-2017, Base
-/// Definitions, 4.13). Relative and absolute paths are alike, a rule of this project.
+/// Returns where the components of a path lead from the root: pathname resolution (POSIX.1-2017,
+/// Base Definitions, 4.13). Relative and absolute paths are treated alike, a rule of this project.
 ///
-/// `.` stays where it is, and `..` goes to the parent, the root's being the root. A name that is
-/// not the last has to lead to a directory: refuses a missing one as ENOENT, and a file as
-/// ENOTDIR. A last name may be missing. Where it is a file and a slash follows (`slash`), it is
-/// refused as ENOTDIR too. A symbolic link is followed, a last one where `follow` says so or a
-/// slash is behind it; more than 40 are refused as ELOOP.
+/// `.` stays in a directory, and `..` goes to its parent. The parent of the root is the root. A
+/// name that is not the last must lead to a directory. If it is missing the walk fails with ENOENT,
+/// and if it is a regular file, with ENOTDIR.
+///
+/// The last name may be missing. If it is a regular file and a slash follows (`slash`), the walk
+/// fails with ENOTDIR. A symbolic link before the last name is followed. A last one is followed
+/// only if `follow` is true or a slash follows it. More than 40 links fail with ELOOP. The outer
+/// error is out of memory.
 pub fn walk<R: Reader>(
     alloc: Global,
     reader: &mut R,
     follow: bool,
     names: &[Name],
     slash: bool,
-) -> Result<Result<Spot, Errno>, Memory>
-    ensures end { IfOk result (λ end. end ≡ answer (walk follow names.now slash) (view_of (R.cells reader.old))) }
-    ensures noted { OnOk result (reader.new ≡ all_noted R.noted reader.old (looked_at (walk follow names.now slash) (view_of (R.cells reader.old)))) }
+) -> Result<Result<PathEnd, Errno>, Memory>
+    ensures end { IfOk result
+        (λ end. end ≡ answer (walk follow names.now slash) (view_of (R.cells reader.old))) }
+    ensures noted { OnOk result
+        (NotesLooks R.noted (R.cells reader.old) (walk follow names.now slash) reader.old
+        reader.new) }
 {
     let route = Route {
         start: ROOT,
@@ -121,15 +129,20 @@ pub fn walk<R: Reader>(
     walk_from(alloc, reader, follow, route)
 }
 
-/// Where components lead from a directory on, as `walk` leads from the root.
+/// Returns where components lead from a directory, as `walk` does from the root.
 pub fn walk_from<R: Reader>(
     alloc: Global,
     reader: &mut R,
     follow: bool,
     route: Route<'_>,
-) -> Result<Result<Spot, Errno>, Memory>
-    ensures end { IfOk result (λ end. end ≡ answer (walk_from follow route.entry.start route.entry.names.now route.entry.slash) (view_of (R.cells reader.old))) }
-    ensures noted { OnOk result (reader.new ≡ all_noted R.noted reader.old (looked_at (walk_from follow route.entry.start route.entry.names.now route.entry.slash) (view_of (R.cells reader.old)))) }
+) -> Result<Result<PathEnd, Errno>, Memory>
+    ensures end { IfOk result
+        (λ end. end ≡ answer (walk_from follow route.entry.start route.entry.names.now
+        route.entry.slash) (view_of (R.cells reader.old))) }
+    ensures noted { OnOk result
+        (NotesLooks R.noted (R.cells reader.old)
+        (walk_from follow route.entry.start route.entry.names.now route.entry.slash) reader.old
+        reader.new) }
 {
     let links = Following {
         left: MOST_FOLLOWED,
@@ -138,16 +151,21 @@ pub fn walk_from<R: Reader>(
     walk_on(alloc, reader, links, route)
 }
 
-/// Where a route leads, where so many links may still be followed.
+/// Returns where a route leads. The walk may still follow `links.left` symbolic links.
 #[cycle(walking)]
 fn walk_on<R: Reader>(
     alloc: Global,
     reader: &mut R,
     links: Following,
     route: Route<'_>,
-) -> Result<Result<Spot, Errno>, Memory>
-    ensures end { IfOk result (λ end. end ≡ answer (walk_on links.left links.last route.entry.start route.entry.names.now route.entry.slash) (view_of (R.cells reader.old))) }
-    ensures noted { OnOk result (reader.new ≡ all_noted R.noted reader.old (looked_at (walk_on links.left links.last route.entry.start route.entry.names.now route.entry.slash) (view_of (R.cells reader.old)))) }
+) -> Result<Result<PathEnd, Errno>, Memory>
+    ensures end { IfOk result
+        (λ end. end ≡ answer (walk_on links.left links.last route.entry.start route.entry.names.now
+        route.entry.slash) (view_of (R.cells reader.old))) }
+    ensures noted { OnOk result
+        (NotesLooks R.noted (R.cells reader.old)
+        (walk_on links.left links.last route.entry.start route.entry.names.now route.entry.slash)
+        reader.old reader.new) }
 {
     match walk_leg(reader, route, links.last)? {
         Leg::Ends(end) => Ok(end),
@@ -162,8 +180,8 @@ fn walk_on<R: Reader>(
     }
 }
 
-/// Where a walk leads from a symbolic link on that is followed, with a slash behind the last name
-/// or none.
+/// Returns where a walk leads from a symbolic link that is followed. `slash` is whether a slash
+/// follows the last name.
 #[cycle(walking)]
 fn onward<R: Reader>(
     alloc: Global,
@@ -171,9 +189,14 @@ fn onward<R: Reader>(
     links: Following,
     met: Met<'_>,
     slash: bool,
-) -> Result<Result<Spot, Errno>, Memory>
-    ensures end { IfOk result (λ end. end ≡ answer (onward (walk_on links.left links.last) slash (Meets met.entry.link met.entry.dir met.entry.names.now)) (view_of (R.cells reader.old))) }
-    ensures noted { OnOk result (reader.new ≡ all_noted R.noted reader.old (looked_at (onward (walk_on links.left links.last) slash (Meets met.entry.link met.entry.dir met.entry.names.now)) (view_of (R.cells reader.old)))) }
+) -> Result<Result<PathEnd, Errno>, Memory>
+    ensures end { IfOk result
+        (λ end. end ≡ answer (onward (walk_on links.left links.last) slash
+        (Meets met.entry.link met.entry.dir met.entry.names.now)) (view_of (R.cells reader.old))) }
+    ensures noted { OnOk result
+        (NotesLooks R.noted (R.cells reader.old)
+        (onward (walk_on links.left links.last) slash
+        (Meets met.entry.link met.entry.dir met.entry.names.now)) reader.old reader.new) }
 {
     let target = reader.target(met.link)?;
     match way_behind(alloc, met, slash, target.as_slice())? {
@@ -189,14 +212,16 @@ fn onward<R: Reader>(
     }
 }
 
-/// The way behind a symbolic link that was met: its target, and then the names that were left.
+/// Returns the way from a symbolic link that was met: its target, and then the names that were
+/// left. The inner error is that of the target. The outer error is out of memory.
 fn way_behind(
     alloc: Global,
     met: Met<'_>,
     slash: bool,
     target: &[u8],
 ) -> Result<Result<Way, Errno>, Memory>
-    ensures { IfOk result (λ way. way ≡ way_behind met.entry.dir met.entry.names.now slash target.now) }
+    ensures { IfOk result (λ way. way
+        ≡ way_behind met.entry.dir met.entry.names.now slash target.now) }
 {
     let mut parts = match target_parts(alloc, target) {
         Ok(parts) => parts,
@@ -211,14 +236,15 @@ fn way_behind(
     }))
 }
 
-/// Where a target starts: at the root, or in the directory of its link.
+/// Returns where a target starts: at the root, or in the directory of its link.
 fn start_of(dir: u64, target: &[u8]) -> u64
     ensures { result ≡ start_of dir target.now }
 {
     if begins_with_slash(target) { ROOT } else { dir }
 }
 
-/// Whether a slash follows the last name, once a target stands in the place of its link.
+/// Returns whether a slash follows the last name after a target replaces its link. `behind` is
+/// whether a slash follows the target.
 fn slash_after(slash: bool, names: &[Name], behind: bool) -> bool
     ensures { result ≡ slash_after slash names.now behind }
 {
@@ -229,14 +255,20 @@ fn slash_after(slash: bool, names: &[Name], behind: bool) -> bool
     }
 }
 
-/// Where a route leads, up to a symbolic link that is to be followed.
+/// Returns where a route leads, up to a symbolic link that is to be followed.
 fn walk_leg<'a, R: Reader>(
     reader: &mut R,
     route: Route<'a>,
     follow: bool,
 ) -> Result<Leg<'a>, Memory>
-    ensures end { IfOk result (λ end. leg_in end ≡ answer (leg route.entry.start route.entry.names.now follow route.entry.slash) (view_of (R.cells reader.old))) }
-    ensures noted { OnOk result (reader.new ≡ all_noted R.noted reader.old (looked_at (leg route.entry.start route.entry.names.now follow route.entry.slash) (view_of (R.cells reader.old)))) }
+    ensures end { IfOk result
+        (λ end. leg_in end ≡ answer
+        (leg route.entry.start route.entry.names.now follow route.entry.slash)
+        (view_of (R.cells reader.old))) }
+    ensures noted { OnOk result
+        (NotesLooks R.noted (R.cells reader.old)
+        (leg route.entry.start route.entry.names.now follow route.entry.slash) reader.old
+        reader.new) }
 {
     let Route {
         start,
@@ -244,7 +276,7 @@ fn walk_leg<'a, R: Reader>(
         slash,
     } = route;
     let Some((first, rest)) = names.split_first() else {
-        return Ok(Leg::Ends(Ok(Spot::Itself(start))));
+        return Ok(Leg::Ends(Ok(PathEnd::Itself(start))));
     };
     let mut dir = start;
     let mut name = first;
@@ -261,7 +293,7 @@ fn walk_leg<'a, R: Reader>(
     })
 }
 
-/// The end of a leg in a directory, with these names left.
+/// Returns the end of a leg that halts in a directory, with these names left.
 fn halted(dir: u64, names: &[Name], halt: Halt) -> Leg<'_>
     ensures { leg_in result ≡ halted dir names.now halt }
 {
@@ -271,10 +303,11 @@ fn halted(dir: u64, names: &[Name], halt: Halt) -> Leg<'_>
     }
 }
 
-/// The parent of a directory, the root's being the root.
+/// Returns the parent of a directory. The parent of the root is the root.
 fn up<R: Reader>(reader: &mut R, dir: u64) -> Result<u64, Memory>
     ensures end { IfOk result (λ end. end ≡ answer (up dir) (view_of (R.cells reader.old))) }
-    ensures noted { OnOk result (reader.new ≡ all_noted R.noted reader.old (looked_at (up dir) (view_of (R.cells reader.old)))) }
+    ensures noted { OnOk result
+        (NotesLooks R.noted (R.cells reader.old) (up dir) reader.old reader.new) }
 {
     if dir == ROOT {
         return Ok(ROOT);
@@ -282,10 +315,12 @@ fn up<R: Reader>(reader: &mut R, dir: u64) -> Result<u64, Memory>
     Ok(reader.parent(dir)?.unwrap_or(ROOT))
 }
 
-/// Where a component that is not the last leads from a directory.
+/// Returns where a component that is not the last leads from a directory.
 fn inner<R: Reader>(reader: &mut R, dir: u64, name: &Name) -> Result<Result<u64, Halt>, Memory>
-    ensures end { IfOk result (λ end. end ≡ answer (inner dir name.now) (view_of (R.cells reader.old))) }
-    ensures noted { OnOk result (reader.new ≡ all_noted R.noted reader.old (looked_at (inner dir name.now) (view_of (R.cells reader.old)))) }
+    ensures end { IfOk result
+        (λ end. end ≡ answer (inner dir name.now) (view_of (R.cells reader.old))) }
+    ensures noted { OnOk result
+        (NotesLooks R.noted (R.cells reader.old) (inner dir name.now) reader.old reader.new) }
 {
     if name.is_dot() {
         return Ok(Ok(dir));
@@ -301,22 +336,25 @@ fn inner<R: Reader>(reader: &mut R, dir: u64, name: &Name) -> Result<Result<u64,
     })
 }
 
-/// Where the last component leads from a directory.
+/// Returns where the last component leads from a directory.
 fn last<R: Reader>(
     reader: &mut R,
     dir: u64,
     name: &Name,
     follow: bool,
     slash: bool,
-) -> Result<Result<Spot, Halt>, Memory>
-    ensures end { IfOk result (λ end. end ≡ answer (last dir name.now follow slash) (view_of (R.cells reader.old))) }
-    ensures noted { OnOk result (reader.new ≡ all_noted R.noted reader.old (looked_at (last dir name.now follow slash) (view_of (R.cells reader.old)))) }
+) -> Result<Result<PathEnd, Halt>, Memory>
+    ensures end { IfOk result
+        (λ end. end ≡ answer (last dir name.now follow slash) (view_of (R.cells reader.old))) }
+    ensures noted { OnOk result
+        (NotesLooks R.noted (R.cells reader.old) (last dir name.now follow slash) reader.old
+        reader.new) }
 {
     if name.is_dot() {
-        return Ok(Ok(Spot::Itself(dir)));
+        return Ok(Ok(PathEnd::Itself(dir)));
     }
     if name.is_dot_dot() {
-        return Ok(Ok(Spot::Itself(up(reader, dir)?)));
+        return Ok(Ok(PathEnd::Itself(up(reader, dir)?)));
     }
     Ok(match reader.entry(dir, name)? {
         Some(Node::File(Form::Regular, _)) if slash => Err(Halt::Fault(Errno::ENOTDIR)),
@@ -324,7 +362,7 @@ fn last<R: Reader>(
         node => {
             let name = name.try_clone()?;
             let entry = Entry { dir, name };
-            Ok(Spot::Named { entry, node, slash })
+            Ok(PathEnd::Named { entry, node, slash })
         }
     })
 }

@@ -1,4 +1,4 @@
-// The rows of a tree are put one behind the other.
+// Appends the rows of a tree, one kind after another.
 ghost use Rattle.std.specs.Prelude.{◌≡◌, ◌++◌, OnOk};
 ghost use Rattle.std.specs.FinMap as finite;
 ghost use Rattle.ft_cells.specs.Rows.{dir_rows, edge_rows, file_rows, dir_attributes_rows, file_attributes_rows, time_rows, open_rows};
@@ -7,13 +7,14 @@ ghost use Rattle.ft_tree.specs.Tidy.{dirs_from, edges_from, files_from, opens_fr
 use crate::tree::ROOT;
 use ft_base::{Memory, Table};
 use ft_cells::{Hinted, OpenFile, TreeRow};
-use ft_descriptions::Descriptions;
 use ft_inodes::Inodes;
+use ft_open_files::OpenFiles;
 use std::alloc::Global;
 
-/// Puts the directories that are there behind the rows.
+/// Appends the rows of the directories that exist. Out of memory is the only error.
 pub(crate) fn push_dirs(rows: &mut Vec<TreeRow>, inodes: &Inodes) -> Result<(), Memory>
-    ensures { OnOk result (rows.new.items ≡ rows.old.items ++ dir_rows (dirs_from (finite.entries inodes.now.directories))) }
+    ensures { OnOk result (rows.new.items ≡ rows.old.items
+        ++ dir_rows (dirs_from (finite.entries inodes.now.directories))) }
 {
     for (number, directory) in inodes.directories() {
         if number == ROOT || directory.parent().is_some() {
@@ -23,9 +24,10 @@ pub(crate) fn push_dirs(rows: &mut Vec<TreeRow>, inodes: &Inodes) -> Result<(), 
     Ok(())
 }
 
-/// Puts the entries of all directories behind the rows.
+/// Appends the rows of the entries of all directories. Out of memory is the only error.
 pub(crate) fn push_edges(rows: &mut Vec<TreeRow>, inodes: &Inodes) -> Result<(), Memory>
-    ensures { OnOk result (rows.new.items ≡ rows.old.items ++ edge_rows (edges_from (finite.entries inodes.now.directories))) }
+    ensures { OnOk result (rows.new.items ≡ rows.old.items
+        ++ edge_rows (edges_from (finite.entries inodes.now.directories))) }
 {
     for (number, directory) in inodes.directories() {
         directory.push_edges(number, rows)?;
@@ -33,13 +35,14 @@ pub(crate) fn push_edges(rows: &mut Vec<TreeRow>, inodes: &Inodes) -> Result<(),
     Ok(())
 }
 
-/// Puts the files that are there behind the rows.
+/// Appends the rows of the files that exist. Out of memory is the only error.
 pub(crate) fn push_files(
     rows: &mut Vec<TreeRow>,
     inodes: &Inodes,
-    opens: &Descriptions,
+    opens: &OpenFiles,
 ) -> Result<(), Memory>
-    ensures { OnOk result (rows.new.items ≡ rows.old.items ++ file_rows (files_from opens.now (finite.entries inodes.now.files))) }
+    ensures { OnOk result (rows.new.items ≡ rows.old.items
+        ++ file_rows (files_from opens.now (finite.entries inodes.now.files))) }
 {
     for (number, file) in inodes.files() {
         if file.links() > 0 || opens.is_open(number) {
@@ -55,9 +58,11 @@ pub(crate) fn push_files(
     Ok(())
 }
 
-/// Puts the attributes that are kept of directories that are there behind the rows.
+/// Appends the rows of the attributes that are stored of existing directories. Out of memory is the
+/// only error.
 pub(crate) fn push_dir_attributes(rows: &mut Vec<TreeRow>, inodes: &Inodes) -> Result<(), Memory>
-    ensures { OnOk result (rows.new.items ≡ rows.old.items ++ dir_attributes_rows (dirs_from (finite.entries inodes.now.directories))) }
+    ensures { OnOk result (rows.new.items ≡ rows.old.items
+        ++ dir_attributes_rows (dirs_from (finite.entries inodes.now.directories))) }
 {
     for (number, directory) in inodes.directories() {
         if number == ROOT || directory.parent().is_some() {
@@ -69,13 +74,15 @@ pub(crate) fn push_dir_attributes(rows: &mut Vec<TreeRow>, inodes: &Inodes) -> R
     Ok(())
 }
 
-/// Puts the attributes that are kept of files that are there behind the rows.
+/// Appends the rows of the attributes that are stored of existing files. Out of memory is the only
+/// error.
 pub(crate) fn push_file_attributes(
     rows: &mut Vec<TreeRow>,
     inodes: &Inodes,
-    opens: &Descriptions,
+    opens: &OpenFiles,
 ) -> Result<(), Memory>
-    ensures { OnOk result (rows.new.items ≡ rows.old.items ++ file_attributes_rows (files_from opens.now (finite.entries inodes.now.files))) }
+    ensures { OnOk result (rows.new.items ≡ rows.old.items
+        ++ file_attributes_rows (files_from opens.now (finite.entries inodes.now.files))) }
 {
     for (number, file) in inodes.files() {
         if file.links() > 0 || opens.is_open(number) {
@@ -87,13 +94,14 @@ pub(crate) fn push_file_attributes(
     Ok(())
 }
 
-/// Puts the times of the files that are there behind the rows.
+/// Appends the rows of the times of existing files. Out of memory is the only error.
 pub(crate) fn push_times(
     rows: &mut Vec<TreeRow>,
     inodes: &Inodes,
-    opens: &Descriptions,
+    opens: &OpenFiles,
 ) -> Result<(), Memory>
-    ensures { OnOk result (rows.new.items ≡ rows.old.items ++ time_rows (files_from opens.now (finite.entries inodes.now.files))) }
+    ensures { OnOk result (rows.new.items ≡ rows.old.items
+        ++ time_rows (files_from opens.now (finite.entries inodes.now.files))) }
 {
     for (number, file) in inodes.files() {
         if file.links() > 0 || opens.is_open(number) {
@@ -105,13 +113,14 @@ pub(crate) fn push_times(
     Ok(())
 }
 
-/// Puts the descriptors that are open behind the rows.
+/// Appends the rows of the open descriptors. Out of memory is the only error.
 pub(crate) fn push_opens(
     alloc: Global,
     rows: &mut Vec<TreeRow>,
     opens: &Table<Option<Hinted<OpenFile>>>,
 ) -> Result<(), Memory>
-    ensures { OnOk result (rows.new.items ≡ rows.old.items ++ open_rows (opens_from (finite.entries opens.now))) }
+    ensures { OnOk result (rows.new.items ≡ rows.old.items
+        ++ open_rows (opens_from (finite.entries opens.now))) }
 {
     for (fd, place) in opens.sorted(alloc)? {
         if let Some(hinted) = place {

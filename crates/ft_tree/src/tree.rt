@@ -1,14 +1,14 @@
 // A tree by its cells.
 ghost use Rattle.std.specs.Prelude.{◌≡◌, ◌↔◌, ◌<◌, ◌≤◌, ◌+◌, ◌-◌, ◌^◌, ℕ, [], length, IsTrue, IsOk, IfOk, OnOk, OnErr, Option};
 ghost use Rattle.std.specs.Option.{option_copied, option_map};
-ghost use Rattle.std.specs.FinMap as map;
+ghost use Rattle.std.specs.FinMap as finite;
 ghost use Rattle.ft_cells.specs.Nodes.{with_kinds};
 ghost use Rattle.ft_cells.specs.Looks.{answer};
 ghost use Rattle.ft_tree.specs.Views.{view_of};
 ghost use Rattle.ft_tree.specs.Walk.{walk, found};
 ghost use Rattle.ft_body.specs.declared.TheConstants.{LARGEST_SIZE};
 ghost use Rattle.ft_body.specs.Bytes.{fitting, written, resized};
-ghost use Rattle.ft_cells.specs.Cells.{entry_of, names_of, parent_of, dir_attributes_of, links_of, file_attributes_of, contents_of, bytes_of, time_of, untimed, timed, body_in, open_of, kind_of, has_dir, has_file, put_entry, put_parent, put_dir_attributes, put_links, put_file_attributes, put_contents, put_open, stored_dirs, HasEntryPlace, HasDirPlace, HasFilePlace, HasOpenPlace, fresh_cells};
+ghost use Rattle.ft_cells.specs.Cells.{entry_of, names_of, parent_of, dir_attributes_of, links_of, file_attributes_of, contents_of, bytes_of, time_of, untimed, timed, body_in, open_of, kind_of, has_dir, has_file, put_entry, put_parent, put_dir_attributes, put_links, put_file_attributes, put_contents, put_open, directory_count, HasEntryPlace, HasDirPlace, HasFilePlace, HasOpenPlace, fresh_cells};
 ghost use Rattle.ft_cells.specs.declared.cell.Cell.TheVariants.{Entry as EntryCell, Parent, Links, Fd};
 ghost use Rattle.ft_tree.specs.Held.{place_at, without_place};
 ghost use Rattle.ft_cells.specs.Limits.{default_limits};
@@ -28,37 +28,39 @@ use crate::rows::{
 use ft_base::Memory;
 use ft_body::Body;
 use ft_cells::{
-    Attributes, Cell, Entry, Form, Found, Hint, Kind, Node, OpenFile, Rare, Spot, Timestamp,
+    Attributes, Cell, Entry, Form, Found, Hint, Kind, Node, OpenFile, PathEnd, Rare, Timestamp,
     TreeLimits, TreeRow,
 };
-use ft_descriptions::Descriptions;
 use ft_inodes::{Directory, File, FileUndo, Inodes};
+use ft_open_files::OpenFiles;
 use ft_path::{Errno, Name, Parts};
 use std::alloc::Global;
 use std::marker::Model;
 
-/// The number of the root directory. Every walk begins there.
+/// The number of the root directory, where every walk begins.
 pub const ROOT: u64 = 1;
 
 /// A tree of directories and files with its open file descriptions, in memory.
 ///
-/// Clauses see its stored cells: for each directory its parent, its attributes, and a place for
-/// each of its entries, which may be empty; for each file the count of its links, its attributes,
-/// and its bytes with their time; and a place for the open file description of each descriptor,
-/// which may be empty; and what the tree allows, which never changes. Its plain tree is what they
-/// are when tidied, without the empty places and without files that neither an entry nor a
-/// description names. It may have any number of each, and keeps the allocator that it was made
-/// with.
+/// Clauses see its stored cells and its limits, which never change. For each directory they see its
+/// parent, its attributes, and a place for each of its entries. For each file they see the count of
+/// its links, its attributes, and its bytes with their time. For each descriptor they see a place
+/// for its open file description. The places of entries and descriptions may be empty.
+///
+/// The plain tree is what these cells are when tidied: without the empty places, and without files
+/// that neither an entry nor a description names. A tree may have any number of each, and keeps the
+/// allocator that it was made with.
 pub struct Tree {
     alloc: Global,
     limits: TreeLimits,
     inodes: Inodes,
-    opens: Descriptions,
-    /// Where the directory or the file stands that was changed last, but for its entries.
+    opens: OpenFiles,
+    /// A hint of where the directory or file is that was last changed, except by a change of its
+    /// entries.
     near: Hint,
-    /// Where the directory stands of which an entry was changed last.
+    /// A hint of where the directory is of which an entry was last changed.
     home: Hint,
-    /// What the hashes of names are mixed with.
+    /// The number that is mixed into the hashes of names.
     seed: u64,
 }
 
@@ -85,14 +87,19 @@ impl Model for Tree {
 
     ghost coded = { coded_cells };
 
-    ghost view = { λ a. record { limits = a.limits; directories = a.inodes.directories; files = a.inodes.files; opens = a.opens } };
+    ghost view = { λ a. record {
+      limits = a.limits;
+      directories = a.inodes.directories;
+      files = a.inodes.files;
+      opens = a.opens;
+    } };
 
     ghost invariant = { λ a. a.limits.file_size ≤ LARGEST_SIZE };
 }
 
 impl Tree {
-    /// The empty tree: the root alone, without an entry, and with the limits that a tree has by
-    /// default. Every number but the root's is free in it. Refuses want of memory.
+    /// Returns the empty tree with the default limits: only the root, without an entry. Every
+    /// number except that of the root is free in it. Out of memory is the only error.
     pub fn new(alloc: Global) -> Result<Tree, Memory>
         ensures cells { IfOk result (λ tree. tree ≡ fresh_cells default_limits) }
         ensures sound { IfOk result (λ tree. AreSoundCells tree) }
@@ -101,8 +108,8 @@ impl Tree {
         Tree::with_limits(alloc, TreeLimits::default())
     }
 
-    /// The empty tree with limits of its own: the root alone, without an entry. Every number but
-    /// the root's is free in it. Refuses want of memory.
+    /// Returns the empty tree with these limits: only the root, without an entry. Every number
+    /// except that of the root is free in it. Out of memory is the only error.
     pub fn with_limits(alloc: Global, limits: TreeLimits) -> Result<Tree, Memory>
         requires { limits.file_size ≤ LARGEST_SIZE }
         ensures cells { IfOk result (λ tree. tree ≡ fresh_cells limits) }
@@ -115,23 +122,25 @@ impl Tree {
             alloc,
             limits,
             inodes,
-            opens: Descriptions::new(alloc),
+            opens: OpenFiles::new(alloc),
             near,
             home: near,
             seed: 0,
         })
     }
 
-    /// Mixes a number into the hashes by which names are found, so that whoever can't guess it can't
-    /// choose names that collide. It is to be set before the first entry is: a directory that has
-    /// many keeps the number that it found. Nothing is seen of it. Until one is set it is 0.
+    /// Sets the number that is mixed into the hashes by which names are found. Someone who cannot
+    /// guess it cannot choose names that collide. Until it is set, it is 0.
+    ///
+    /// Set it before the first entry: a directory with many entries keeps the number that it found.
+    /// The number is not visible in the cells of the tree.
     pub fn seed(&mut self, seed: u64)
         ensures { self.new ≡ self.old }
     {
         self.seed = seed;
     }
 
-    /// What the tree allows.
+    /// Returns the limits of the tree.
     pub fn limits(&self) -> TreeLimits
         ensures are { result ≡ self.now.limits }
         ensures size { result.file_size ≤ LARGEST_SIZE }
@@ -139,10 +148,10 @@ impl Tree {
         self.limits
     }
 
-    /// What a name leads to in a directory: nothing, where it is no entry of it or where `dir` is
-    /// no directory that is stored. `.` and `..` are not looked up, but names like others.
+    /// Returns what a name leads to in a directory. Returns nothing if the name is not an entry or
+    /// `dir` is not a stored directory. `.` and `..` are treated like other names.
     ///
-    /// POSIX.1-2017, Base Definitions, 3 (Directory Entry).
+    /// See POSIX.1-2017, Base Definitions, 3 (Directory Entry).
     pub fn entry(&self, dir: u64, name: &Name) -> Option<Node>
         ensures { result ≡ entry_of self.now dir name.now }
     {
@@ -152,29 +161,29 @@ impl Tree {
         }
     }
 
-    /// The directory that has a directory's entry. The root has none, and so has a number that is
-    /// no directory.
+    /// Returns the parent of a directory: the directory that has its entry. Returns nothing for the
+    /// root, and for a number that is not a directory.
     ///
-    /// POSIX.1-2017, Base Definitions, 3 (Parent Directory), where the root may be its own parent:
-    /// to go up from the root is the walk's part.
+    /// In POSIX.1-2017, Base Definitions, 3 (Parent Directory), the root may be its own parent.
+    /// Here the walk handles the step up from the root.
     pub fn parent(&self, dir: u64) -> Option<u64>
         ensures { result ≡ parent_of self.now dir }
     {
         self.parent_near(dir, self.near)
     }
 
-    /// The attributes that are kept of a directory: none, where they are those that a directory has
-    /// anyway. A number that is no directory has none.
+    /// Returns the attributes that are stored of a directory. Returns nothing if they are the
+    /// defaults of a directory, and for a number that is not a directory.
     ///
-    /// POSIX.1-2017, Base Definitions, sys/stat.h.
+    /// See POSIX.1-2017, Base Definitions, sys/stat.h.
     pub fn dir_attributes(&self, dir: u64) -> Option<Attributes>
         ensures { result ≡ dir_attributes_of self.now dir }
     {
         self.dir_attributes_near(dir, self.near)
     }
 
-    /// What a number stands for: a directory where it is the root or has a parent, a file where an
-    /// entry or a description names one, and else nothing.
+    /// Returns what a number names. It is a directory if it is the root or has a parent, and a file
+    /// if an entry or a description names it. Otherwise returns nothing.
     pub fn kind(&self, number: u64) -> Option<Kind>
         ensures { result ≡ kind_of self.now number }
     {
@@ -187,78 +196,79 @@ impl Tree {
         None
     }
 
-    /// How many entries name a file. A number that is no file has none.
+    /// Returns how many entries name a file. Returns 0 for a number that is not a file.
     ///
-    /// POSIX.1-2017, Base Definitions, 3 (Link Count).
+    /// See POSIX.1-2017, Base Definitions, 3 (Link Count).
     pub fn links(&self, file: u64) -> u64
         ensures { result ≡ links_of self.now file }
     {
         self.links_near(file, self.near)
     }
 
-    /// The attributes that are kept of a file: none, where they are those that a file has anyway. A
-    /// number that is no file has none.
+    /// Returns the attributes that are stored of a file. Returns nothing if they are the defaults
+    /// of a file, and for a number that is not a file.
     ///
-    /// POSIX.1-2017, Base Definitions, sys/stat.h.
+    /// See POSIX.1-2017, Base Definitions, sys/stat.h.
     pub fn file_attributes(&self, file: u64) -> Option<Attributes>
         ensures { result ≡ file_attributes_of self.now file }
     {
         self.file_attributes_near(file, self.near)
     }
 
-    /// The time of a file's bytes, where one was set since they were written last.
+    /// Returns the time of the bytes of a file, if one was set since the last write.
     ///
-    /// POSIX.1-2017, Base Definitions, 4.9 (File Times Update); that no clock is read is a rule of
-    /// this project.
+    /// See POSIX.1-2017, Base Definitions, 4.9 (File Times Update). That no clock is read is a rule
+    /// of this project.
     pub fn time(&self, file: u64) -> Option<Timestamp>
         ensures { result ≡ time_of self.now file }
     {
         self.time_near(file, self.near)
     }
 
-    /// The bytes of a file, where it is stored.
+    /// Returns the bytes of a file, if the file is stored.
     pub fn body(&self, file: u64) -> Option<&Body>
         ensures { option_copied result ≡ body_in self.now file }
     {
         self.body_near(file, self.near)
     }
 
-    /// The same, of a file that comes with where it may stand.
+    /// Returns the bytes of a file, if the file is stored. The file comes with a hint of where it
+    /// is.
     pub fn hinted_body(&self, file: &HintedFile) -> Option<&Body>
         ensures { option_copied result ≡ body_in self.now file.now }
     {
         self.body_near(file.number, self.hint_at(file))
     }
 
-    /// The open file description of a descriptor, where it is open.
+    /// Returns the open file description of a descriptor, if it is open.
     ///
-    /// POSIX.1-2017, Base Definitions, 3 (Open File Description).
+    /// See POSIX.1-2017, Base Definitions, 3 (Open File Description).
     pub fn open_file(&self, fd: u64) -> Option<OpenFile>
         ensures { result ≡ open_of self.now fd }
     {
         self.opens.get(fd)
     }
 
-    /// How many directories are stored: those that are there, and those whose place was emptied.
-    /// From each directory that is there as many steps up to a parent lead to the root, or fewer.
-    pub fn stored_dirs(&self) -> usize
-        ensures { result ≡ stored_dirs self.now }
+    /// Returns how many directories are stored: those that exist, and those whose place was
+    /// emptied. From each existing directory, at most this many steps up lead to the root.
+    pub fn directory_count(&self) -> usize
+        ensures { result ≡ directory_count self.now }
     {
         self.inodes.directory_count()
     }
 
-    /// Whether a directory has no entry. A number that is no directory has none.
+    /// Returns whether a directory has no entry. A number that is not a directory has none.
     ///
-    /// POSIX.1-2017, Base Definitions, 3 (Empty Directory).
+    /// See POSIX.1-2017, Base Definitions, 3 (Empty Directory).
     pub fn is_empty_dir(&self, dir: u64) -> bool
         ensures { IsTrue result ↔ (names_of self.now dir ≡ []) }
     {
         self.is_empty_near(dir, self.near)
     }
 
-    /// The names of a directory with the kinds of what they lead to, in the order of their bytes.
-    /// `.` and `..` are not added to them. A number that is no directory has none. Refuses want of
-    /// memory.
+    /// Returns the names of a directory with the kinds of what they lead to, in the order of their
+    /// bytes. `.` and `..` are not added. A number that is not a directory has no names. Out of
+    /// memory is the only error.
     pub fn names(&self, dir: u64) -> Result<Vec<(Name, Kind)>, Memory>
         ensures { IfOk result (λ names. names.items ≡ with_kinds (names_of self.now dir)) }
     {
@@ -268,12 +278,12 @@ impl Tree {
         }
     }
 
-    /// Sets what an entry leads to, or that it is none. Its directory has to be stored, and no
-    /// other cell changes: that the tree stays one is the caller's part. Answers what stood in the
-    /// entry's place, or nothing where that is new.
+    /// Sets what an entry leads to, or that it is not an entry, and changes no other cell. Returns
+    /// the previous content of its place, or nothing if the place is new. The directory must be
+    /// stored. That the tree stays sound is up to the caller.
     ///
-    /// Only a place that is new can want memory, and then nothing has changed. An entry that is
-    /// emptied leaves its place, so that it can be set again without memory.
+    /// Out of memory can occur only if the place is new, and then nothing has changed. An entry
+    /// that is emptied leaves its place, so that it can be set again without memory.
     pub fn set_entry(
         &mut self,
         entry: Entry,
@@ -294,13 +304,12 @@ impl Tree {
         }
     }
 
-    /// Sets the directory that has a directory's entry, or that there is none. A directory that was
-    /// not stored comes without attributes and entries, and no other cell changes: that the tree
-    /// stays one is the caller's part. Answers which parent was stored, or nothing where the
-    /// directory's place is new.
+    /// Sets the parent of a directory, or that it has none, and changes no other cell. Returns the
+    /// previous parent, or nothing if the place of the directory is new. A directory that was not
+    /// stored has no attributes or entries. That the tree stays sound is up to the caller.
     ///
-    /// Only a place that is new can want memory, and then nothing has changed. A directory whose
-    /// parent is taken away leaves its place, so that it can be set again without memory.
+    /// Out of memory can occur only if the place is new, and then nothing has changed. A directory
+    /// whose parent is removed leaves its place, so that it can be set again without memory.
     pub fn set_parent(
         &mut self,
         dir: u64,
@@ -324,8 +333,8 @@ impl Tree {
         }
     }
 
-    /// Sets the attributes that are kept of a directory, or that none are. It has to be stored, and
-    /// no other cell changes: that it is there is the caller's part. Answers those that were kept.
+    /// Sets or clears the attributes that are stored of a directory, and changes no other cell.
+    /// Returns the previous ones. The directory must be stored. That it exists is up to the caller.
     /// Takes no memory.
     pub fn set_dir_attributes(&mut self, dir: u64, to: Rare<Attributes>) -> Rare<Attributes>
         requires { HasDirPlace self.old dir }
@@ -339,11 +348,11 @@ impl Tree {
         }
     }
 
-    /// Sets how many entries name a file. A file that was not stored comes without attributes and
-    /// bytes, and no other cell changes: that the count is right is the caller's part. Answers
-    /// which count was stored, or nothing where the file's place is new.
+    /// Sets how many entries name a file, and changes no other cell. Returns the previous count, or
+    /// nothing if the place of the file is new. A file that was not stored has no attributes or
+    /// bytes. That the count is right is up to the caller.
     ///
-    /// Only a place that is new can want memory, and then nothing has changed.
+    /// Out of memory can occur only if the place is new, and then nothing has changed.
     pub fn set_links(&mut self, file: u64, links: u64) -> Result<Option<u64>, Memory>
         ensures was { IfOk result (λ was. was ≡ place_at self.old (Links file)) }
         ensures ok { OnOk result (self.new ≡ put_links self.old file links) }
@@ -361,8 +370,8 @@ impl Tree {
         }
     }
 
-    /// Sets the attributes that are kept of a file, or that none are. It has to be stored, and no
-    /// other cell changes. Answers those that were kept. Takes no memory.
+    /// Sets or clears the attributes that are stored of a file, and changes no other cell. Returns
+    /// the previous ones. The file must be stored. Takes no memory.
     pub fn set_file_attributes(
         &mut self,
         file: HintedFile,
@@ -382,8 +391,8 @@ impl Tree {
         }
     }
 
-    /// Sets the time of a file's bytes, or that they have none. It has to be stored, and no other
-    /// cell changes. Answers the time that they had. Takes no memory.
+    /// Sets or clears the time of the bytes of a file, and changes no other cell. Returns the
+    /// previous time. The file must be stored. Takes no memory.
     pub fn set_time(&mut self, file: HintedFile, to: Rare<Timestamp>) -> Rare<Timestamp>
         requires { HasFilePlace self.old file }
         ensures was { result ≡ time_of self.old file }
@@ -399,12 +408,13 @@ impl Tree {
         }
     }
 
-    /// Writes bytes to a file at an offset, as many as have room below the size limit, with zeros
-    /// in a gap before them; where none has room, its bytes stay. They have no time from then on.
-    /// The file has to be stored, and no other cell changes. Answers how many were taken, and what
-    /// takes the write back.
+    /// Writes bytes to a file at an offset, as many as fit below the size limit, and fills a gap
+    /// before them with zeros. If none fits, the bytes of the file stay. In either case they have
+    /// no time afterwards. Returns how many bytes were written, and the undo record. The file must
+    /// be stored, and no other cell changes.
     ///
-    /// Refuses want of memory, and then nothing has changed. A write of nothing takes none.
+    /// Out of memory is the only error, and then nothing has changed. A write of no bytes takes no
+    /// memory.
     pub fn write_bytes(
         &mut self,
         file: HintedFile,
@@ -413,9 +423,17 @@ impl Tree {
     ) -> Result<(u64, FileUndo), Memory>
         requires place { HasFilePlace self.old file }
         requires limit { offset ≤ LARGEST_SIZE }
-        ensures taken { IfOk result (λ done. done.0 ≡ length (fitting LARGEST_SIZE bytes.now offset)) }
-        ensures ok { OnOk result (self.new ≡ put_contents self.old file (untimed (written (bytes_of self.old file) offset (fitting LARGEST_SIZE bytes.now offset)))) }
-        ensures undo { IfOk result (λ done. done.1 ≡ record { before = contents_of self.old file; after = contents_of self.new file }) }
+        ensures taken { IfOk result
+            (λ done. done.0 ≡ length (fitting LARGEST_SIZE bytes.now offset)) }
+        ensures ok { OnOk result (self.new
+            ≡ put_contents self.old file
+            (untimed (written (bytes_of self.old file) offset
+            (fitting LARGEST_SIZE bytes.now offset)))) }
+        ensures undo { IfOk result
+            (λ done. done.1 ≡ record {
+              before = contents_of self.old file;
+              after = contents_of self.new file;
+            }) }
         ensures err { OnErr result (self.new ≡ self.old) }
         ensures nothing { fitting LARGEST_SIZE bytes.now offset ≡ [] → IsOk result }
     {
@@ -429,16 +447,21 @@ impl Tree {
         }
     }
 
-    /// Cuts a file to a size, or adds zeros up to it. Its bytes have no time from then on. The file
-    /// has to be stored, and no other cell changes. Answers what takes the change back.
+    /// Cuts a file to a size, or adds zeros up to that size, and removes the time of its bytes.
+    /// Returns the undo record. The file must be stored, and no other cell changes.
     ///
-    /// Refuses want of memory, and then nothing has changed. A file that has the size already takes
-    /// none.
+    /// Out of memory is the only error, and then nothing has changed. A file that already has this
+    /// size takes no memory.
     pub fn set_size(&mut self, file: HintedFile, size: u64) -> Result<FileUndo, Memory>
         requires place { HasFilePlace self.old file }
         requires limit { size ≤ LARGEST_SIZE }
-        ensures ok { OnOk result (self.new ≡ put_contents self.old file (untimed (resized (bytes_of self.old file) size))) }
-        ensures undo { IfOk result (λ undo. undo ≡ record { before = contents_of self.old file; after = contents_of self.new file }) }
+        ensures ok { OnOk result (self.new
+            ≡ put_contents self.old file (untimed (resized (bytes_of self.old file) size))) }
+        ensures undo { IfOk result
+            (λ undo. undo ≡ record {
+              before = contents_of self.old file;
+              after = contents_of self.new file;
+            }) }
         ensures err { OnErr result (self.new ≡ self.old) }
         ensures same { length (bytes_of self.old file) ≡ size → IsOk result }
     {
@@ -452,7 +475,8 @@ impl Tree {
         }
     }
 
-    /// Takes a change of a file's bytes back, where it holds what the change left. Takes no memory.
+    /// Undoes a change of the bytes of a file. The file must hold what the change left. Takes no
+    /// memory.
     pub fn undo_bytes(&mut self, file: u64, undo: FileUndo)
         requires place { HasFilePlace self.old file }
         requires left { contents_of self.old file ≡ undo.after }
@@ -467,12 +491,12 @@ impl Tree {
         }
     }
 
-    /// Sets the open file description of a descriptor, or that it is not open. No other cell
-    /// changes: that the file is there is the caller's part. Answers what stood in the descriptor's
-    /// place, or nothing where that is new.
+    /// Sets the open file description of a descriptor, or that it is closed, and changes no other
+    /// cell. Returns the previous content of its place, or nothing if the place is new. That the
+    /// file exists is up to the caller.
     ///
-    /// Only a place that is new can want memory, and then nothing has changed. A descriptor that is
-    /// closed leaves its place, so that it can be set again without memory.
+    /// Out of memory can occur only if the place is new, and then nothing has changed. A descriptor
+    /// that is closed leaves its place, so that it can be set again without memory.
     pub fn set_open_file(
         &mut self,
         fd: u64,
@@ -483,7 +507,7 @@ impl Tree {
         ensures err { OnErr result (self.new ≡ self.old) }
         ensures place { HasOpenPlace self.old fd → IsOk result }
     {
-        let near = match self.opens.seen(fd) {
+        let near = match self.opens.get_hinted(fd) {
             Some((_, near)) => near,
             None => self.near,
         };
@@ -491,9 +515,9 @@ impl Tree {
         self.opens.set(fd, to, self.near)
     }
 
-    /// Takes the place of a cell away, with all that stands in it: a directory's with its
-    /// attributes and entries, and a file's with its links, attributes and bytes. The names of a
-    /// directory have no place of their own. That the tree stays one is the caller's part.
+    /// Removes the place of a cell, with all its content. A directory goes with its attributes and
+    /// entries, and a file with its links, attributes and bytes. The names of a directory have no
+    /// place of their own. That the tree stays sound is up to the caller.
     pub fn drop_place(&mut self, cell: &Cell)
         ensures { self.new ≡ without_place self.old cell.now }
     {
@@ -517,34 +541,44 @@ impl Tree {
         }
     }
 
-    /// Drops the places that are of no use any more and that nobody keeps, where they are those of
-    /// cells that were let go: of entries and descriptors the empty ones, of directories those that
-    /// are not there and have no place of an entry, and of files those that neither an entry nor a
-    /// description names. A directory's place is kept while its attributes or one of its entries'
-    /// places are, and a file's while its links, its attributes or its bytes are. The tree stays
-    /// what it is. Answers how many places it dropped, or the largest number where there were more.
-    /// Takes no memory, and the time of what was let go.
+    /// Removes the useless places of released cells, except those that are kept, and returns how
+    /// many it removed. If there were too many to count, it returns the largest number. The plain
+    /// tree does not change. Takes no memory, and time proportional to the number of released
+    /// cells.
     ///
-    /// POSIX.1-2017, System Interfaces, unlink and close: a file that no name and no description
-    /// leads to is gone.
+    /// An empty place of an entry or a descriptor is useless. A stored directory is useless if it
+    /// does not exist and has no place of an entry. A file is useless if neither an entry nor a
+    /// description names it. A directory whose last place of an entry is removed this way may be
+    /// removed too.
+    ///
+    /// The place of a directory is kept while its names, its parent or its attributes are kept. It
+    /// is also kept while it has places of entries. The place of a file is kept while its links,
+    /// bytes or attributes are kept.
+    ///
+    /// In POSIX.1-2017, System Interfaces, unlink and close, a file to which no name and no
+    /// description leads is removed.
     pub fn sweep<K: Keeps>(&mut self, keeps: &mut K) -> u64
         ensures swept { IsSwept (K.kept keeps.old) self.old self.new }
-        ensures clean { IsSweptClean (K.kept keeps.old) (set.contains (K.let_go keeps.old)) self.old self.new }
-        ensures none_left { IsAccounted (K.kept keeps.old) (set.contains (K.let_go keeps.old)) self.old → HasNoneToDrop (K.kept keeps.old) self.new }
+        ensures clean { IsSweptClean (K.kept keeps.old) (set.contains (K.released_cells keeps.old))
+            self.old self.new }
+        ensures none_left { IsAccounted (K.kept keeps.old)
+            (set.contains (K.released_cells keeps.old)) self.old
+            → HasNoneToDrop (K.kept keeps.old) self.new }
         ensures tidy { tidy self.new ≡ tidy self.old }
         ensures sound { AreSoundCells self.old → AreSoundCells self.new }
         ensures told { keeps.new ≡ K.all_told keeps.old }
-        ensures count { places_in self.old < 2 ^ 64 - 1 → places_in self.old ≡ result + places_in self.new }
+        ensures count { places_in self.old < 2 ^ 64 - 1
+            → places_in self.old ≡ result + places_in self.new }
     {
         let mut dropped: u64 = 0;
-        while let Some(cell) = keeps.take_let_go() {
+        while let Some(cell) = keeps.take_released() {
             dropped = dropped.saturating_add(self.sweep_cell(keeps, &cell));
         }
         dropped
     }
 
-    /// Drops what is of no use at a cell that was let go, and the place of a directory whose last
-    /// place went so.
+    /// Removes the useless place of a released cell, and the place of a directory whose last place
+    /// of an entry is removed by this. Returns how many places were removed.
     fn sweep_cell<K: Keeps>(&mut self, keeps: &K, cell: &Cell) -> u64
         ensures cells { self.new ≡ swept_at (K.kept keeps.now) self.old cell.now }
         ensures count { result ≡ dropped_at (K.kept keeps.now) self.old cell.now }
@@ -552,7 +586,7 @@ impl Tree {
         match cell {
             Cell::Entry(entry) => {
                 if self.entry(entry.dir, &entry.name).is_some() {
-                    // (neither its place nor its directory is of no use)
+                    // (neither its place nor that of its directory is useless)
                     return 0;
                 }
                 let dropped = self.drop_spare(keeps, cell);
@@ -563,7 +597,8 @@ impl Tree {
         }
     }
 
-    /// Drops the place of a cell where it is of no use and nobody keeps it.
+    /// Removes the place of a cell if it is useless and not kept. Returns how many places were
+    /// removed: 0 or 1.
     fn drop_spare<K: Keeps>(&mut self, keeps: &K, cell: &Cell) -> u64
         ensures cells { self.new ≡ drop_spare (K.kept keeps.now) self.old cell.now }
         ensures count { result ≡ one_if (is_spare (K.kept keeps.now) self.old cell.now) }
@@ -576,7 +611,7 @@ impl Tree {
         1
     }
 
-    /// Whether a cell has its place, and that is of no use.
+    /// Returns whether the place of a cell is there and is useless.
     fn is_useless(&self, cell: &Cell) -> bool
         ensures { result ≡ is_useless self.now cell.now }
     {
@@ -592,7 +627,7 @@ impl Tree {
         }
     }
 
-    /// Whether an entry has a place, and is none.
+    /// Returns whether an entry has a place that is empty.
     fn is_empty_entry(&self, entry: &Entry) -> bool
         ensures { result ≡ is_useless self.now (EntryCell entry.now) }
     {
@@ -602,7 +637,7 @@ impl Tree {
         }
     }
 
-    /// Whether a directory is stored, but is not there and has no place of an entry.
+    /// Returns whether a directory is stored, but does not exist and has no place of an entry.
     fn is_bare_dir(&self, dir: u64) -> bool
         ensures { result ≡ is_useless self.now (Parent dir) }
     {
@@ -614,25 +649,26 @@ impl Tree {
         }
     }
 
-    /// Whether a file is stored, and neither an entry nor a description names it.
+    /// Returns whether a file is stored that neither an entry nor a description names.
     fn is_dead_file(&self, file: u64) -> bool
         ensures { result ≡ is_useless self.now (Links file) }
     {
         self.inodes.file(file, self.near).is_some() && !self.has_file(file)
     }
 
-    /// Whether a descriptor has a place, and is not open.
+    /// Returns whether a descriptor has a place but is not open.
     fn is_empty_descriptor(&self, fd: u64) -> bool
         ensures { result ≡ is_useless self.now (Fd fd) }
     {
         matches!(self.opens.places().get(fd), Some(None))
     }
 
-    /// What a path leads to, with the refusals of `walk`. A missing last name is a place without
-    /// number; what a slash behind it means is for the call to judge. Refuses want of memory, for a
-    /// long last name or for the target of a symbolic link that is followed.
+    /// Returns what a path leads to, with the errors of `walk`. A missing last name is a place
+    /// without a number. The call decides what a slash after it means. Out of memory can occur for
+    /// a long last name, or for the target of a symbolic link that is followed.
     pub fn lookup(&self, follow: bool, parts: &Parts) -> Result<Result<Found, Errno>, Memory>
-        ensures { IfOk result (λ end. end ≡ found (answer (walk follow parts.now.names parts.now.trailing) (view_of self.now))) }
+        ensures { IfOk result (λ end. end
+            ≡ found (answer (walk follow parts.now.names parts.now.trailing) (view_of self.now))) }
     {
         let mut cursor = Cursor::new(self);
         let names = parts.names.as_slice();
@@ -640,17 +676,18 @@ impl Tree {
         Ok(found(end))
     }
 
-    /// The allocator that the tree was made with.
+    /// Returns the allocator that the tree was made with.
     pub(crate) fn allocator(&self) -> Global {
         self.alloc
     }
 
-    /// What the tree holds: the directories by number, then the entries by directory and name, the
-    /// names by their bytes, then the files by number, what is kept of attributes, of directories
-    /// and then of files by number, the times of files by number, and the open descriptors by
-    /// theirs. Empty places, and files that nothing names, are left out. Refuses want of memory.
+    /// Returns the content of the tree, without empty places and without files that nothing names.
+    /// Out of memory is the only error.
     ///
-    /// The order is a rule of this project.
+    /// The order is a rule of this project. First come the directories by number, then the entries
+    /// by directory and by the bytes of their names, and then the files by number. The stored
+    /// attributes follow, of directories and then of files, by number. Last come the times of files
+    /// by number, and the open descriptors by number.
     pub fn rows(&self) -> Result<Vec<TreeRow>, Memory>
         ensures { IfOk result (λ rows. rows.items ≡ rows_of (tidy self.now)) }
     {
@@ -665,8 +702,8 @@ impl Tree {
         Ok(rows)
     }
 
-    /// A tree of its own with equal stored cells, the empty places among them. Refuses want of
-    /// memory.
+    /// Returns a separate tree with equal stored cells, including the empty places. Out of memory
+    /// is the only error.
     pub fn copy(&self) -> Result<Tree, Memory>
         ensures { IfOk result (λ copy. copy ≡ self.now) }
     {
@@ -683,49 +720,50 @@ impl Tree {
         })
     }
 
-    /// What `entry` answers, and where that may stand, where the directory may stand at `near`.
+    /// Returns what `entry` returns, with a hint of where that is. The directory is sought first at
+    /// `near`.
     pub(crate) fn child(&self, dir: u64, name: &Name, near: Hint) -> Option<(Node, Hint)>
         ensures { option_map (λ child. child.0) result ≡ entry_of self.now dir name.now }
     {
         self.inodes.directory(dir, near)?.child(name)
     }
 
-    /// What `open_file` answers, and where its file may stand.
+    /// Returns what `open_file` returns, with a hint of where the file is.
     pub(crate) fn opened(&self, fd: u64) -> Option<(OpenFile, Hint)>
         ensures { option_map (λ opened. opened.0) result ≡ open_of self.now fd }
     {
-        self.opens.seen(fd)
+        self.opens.get_hinted(fd)
     }
 
-    /// What `parent` answers, where the directory may stand at `near`.
+    /// Returns what `parent` returns. The directory is sought first at `near`.
     pub(crate) fn parent_near(&self, dir: u64, near: Hint) -> Option<u64>
         ensures { result ≡ parent_of self.now dir }
     {
         self.inodes.directory(dir, near)?.parent()
     }
 
-    /// What `dir_attributes` answers, where the directory may stand at `near`.
+    /// Returns what `dir_attributes` returns. The directory is sought first at `near`.
     pub(crate) fn dir_attributes_near(&self, dir: u64, near: Hint) -> Option<Attributes>
         ensures { result ≡ dir_attributes_of self.now dir }
     {
         self.inodes.directory(dir, near)?.attributes()
     }
 
-    /// What `file_attributes` answers, where the file may stand at `near`.
+    /// Returns what `file_attributes` returns. The file is sought first at `near`.
     pub(crate) fn file_attributes_near(&self, file: u64, near: Hint) -> Option<Attributes>
         ensures { result ≡ file_attributes_of self.now file }
     {
         self.inodes.file(file, near)?.attributes()
     }
 
-    /// What `time` answers, where the file may stand at `near`.
+    /// Returns what `time` returns. The file is sought first at `near`.
     pub(crate) fn time_near(&self, file: u64, near: Hint) -> Option<Timestamp>
         ensures { result ≡ time_of self.now file }
     {
         self.inodes.file(file, near)?.time()
     }
 
-    /// What `links` answers, where the file may stand at `near`.
+    /// Returns what `links` returns. The file is sought first at `near`.
     pub(crate) fn links_near(&self, file: u64, near: Hint) -> u64
         ensures { result ≡ links_of self.now file }
     {
@@ -735,7 +773,7 @@ impl Tree {
         }
     }
 
-    /// What `body` answers, where the file may stand at `near`.
+    /// Returns what `body` returns. The file is sought first at `near`.
     pub(crate) fn body_near(&self, file: u64, near: Hint) -> Option<&Body>
         ensures { option_copied result ≡ body_in self.now file }
     {
@@ -745,7 +783,7 @@ impl Tree {
         }
     }
 
-    /// What `is_empty_dir` answers, where the directory may stand at `near`.
+    /// Returns what `is_empty_dir` returns. The directory is sought first at `near`.
     pub(crate) fn is_empty_near(&self, dir: u64, near: Hint) -> bool
         ensures { IsTrue result ↔ (names_of self.now dir ≡ []) }
     {
@@ -755,12 +793,13 @@ impl Tree {
         }
     }
 
-    /// Where a file may stand: where the tree was edited last, if nothing says it.
+    /// Returns the hint of a file, or where the tree was last edited if the file comes without one.
     fn hint_at(&self, file: &HintedFile) -> Hint {
         file.near.unwrap_or(self.near)
     }
 
-    /// Where what an entry or a description leads to stands, or else `near`.
+    /// Returns where the node is to which an entry or a description leads, or `near` if there is
+    /// none or it is not stored.
     fn hint_to(&self, to: Option<Node>, near: Hint) -> Hint {
         match to {
             Some(node) => self.inodes.hint_of(node, near),
@@ -768,7 +807,7 @@ impl Tree {
         }
     }
 
-    /// Whether a number is a directory that is there.
+    /// Returns whether a number is a directory that exists.
     fn has_dir(&self, number: u64) -> bool
         ensures { result ≡ has_dir self.now number }
     {
@@ -778,7 +817,7 @@ impl Tree {
         }
     }
 
-    /// Whether a number is a file that an entry or a description names.
+    /// Returns whether a number is a file that an entry or a description names.
     fn has_file(&self, number: u64) -> bool
         ensures { result ≡ has_file self.now number }
     {
@@ -786,21 +825,21 @@ impl Tree {
     }
 }
 
-/// What a path leads to, of the end of its walk.
-fn found(end: Result<Spot, Errno>) -> Result<Found, Errno>
+/// Returns what a path leads to, from the end of its walk.
+fn found(end: Result<PathEnd, Errno>) -> Result<Found, Errno>
     ensures { result ≡ found end }
 {
     match end {
-        Ok(Spot::Named { entry, node, .. }) => Ok(Found::Place {
+        Ok(PathEnd::Named { entry, node, .. }) => Ok(Found::Place {
             dir: entry.dir,
             number: node.map(Node::number),
         }),
-        Ok(Spot::Itself(number)) => Ok(Found::Whole { number }),
+        Ok(PathEnd::Itself(number)) => Ok(Found::Whole { number }),
         Err(errno) => Err(errno),
     }
 }
 
-/// Whether one of the cells that have their place with this one is kept.
+/// Returns whether one of the cells that share the place of this cell is kept.
 fn keeps_place<K: Keeps>(keeps: &K, cell: &Cell) -> bool
     ensures { result ≡ at_place (K.kept keeps.now) cell.now }
 {

@@ -3,9 +3,9 @@ use Rattle.std.proofs.Common.{◌≡◌, List, [], map, sym, ap, subst, ◌∙�
 use Rattle.ft_laws.specs.Effects.{before}
 use Rattle.ft_cells.specs.Cells.{Cells}
 use Rattle.ft_posix.specs.declared.intent.Edit.{Edit}
-use Rattle.ft_undo.specs.declared.undo.Back.{Back}
+use Rattle.ft_undo.specs.declared.undo.BeforeImage.{BeforeImage}
 use Rattle.ft_posix.specs.Accesses.{written_cell}
-use Rattle.ft_posix.specs.Comes.{writes_of}
+use Rattle.ft_posix.specs.Computes.{writes_of}
 use Rattle.ft_posix.specs.Posix.{posix}
 use Rattle.ft_posix.specs.Stored.{put_all}
 use Rattle.ft_posix.specs.Edits.{edit_cell, Apart, EditingLaw, edited, CanEditAll}
@@ -13,7 +13,7 @@ use Rattle.ft_undo.specs.Undone.{backs_of, given_back, CanGiveAllBack, AreAsLeft
 use Rattle.ft_posix.specs.CellLaws.{SettingLaw, RestoringLaw}
 use Rattle.ft_undo.proofs.Undoing.{left-edited, undo-before, give-all, as-left, written-edits, append-nil, IsUnderWay, under-way-back, under-way-same}
 
-module _ (editing : EditingLaw) (setting : SettingLaw) (old : Cells) (edits : List Edit) (apart : Apart edits) (new : Cells) (undo : List Back) (cells : new ≡ edited old edits) (backs : undo ≡ backs_of old edits) where
+module _ (editing : EditingLaw) (setting : SettingLaw) (old : Cells) (edits : List Edit) (apart : Apart edits) (new : Cells) (undo : List BeforeImage) (cells : new ≡ edited old edits) (backs : undo ≡ backs_of old edits) where
   pub made : new ≡ put_all old (writes_of old edits)
   made = cells ∙ editing.made old edits apart
 

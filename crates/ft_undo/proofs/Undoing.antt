@@ -17,13 +17,13 @@ use Rattle.ft_posix.specs.declared.intent.Edit.TheVariants.{Entry, Parent, Links
 use Rattle.ft_posix.specs.Outcomes.{Write, sets}
 use Rattle.ft_posix.specs.Accesses.{written_cell}
 use Rattle.ft_posix.specs.Stored.{put}
-use Rattle.ft_posix.specs.Comes.{write_of, writes_of}
+use Rattle.ft_posix.specs.Computes.{write_of, writes_of}
 use Rattle.ft_posix.specs.Edits.{edited, CanEdit, CanEditAll, edit_cell, IsOther, Apart, SameOn, EditingLaw}
 use Rattle.ft_laws.specs.Effects.{before}
 use Rattle.ft_posix.specs.Posix.{posix}
 use Rattle.ft_posix.specs.CellLaws.{SettingLaw, RestoringLaw}
-use Rattle.ft_undo.specs.declared.undo.Back.{Back}
-use Rattle.ft_undo.specs.declared.undo.Back.TheVariants as back
+use Rattle.ft_undo.specs.declared.undo.BeforeImage.{BeforeImage}
+use Rattle.ft_undo.specs.declared.undo.BeforeImage.TheVariants as back
 use Rattle.ft_undo.specs.Undone.{back_of, backs_of, given_back, CanGiveBack, CanGiveAllBack, restore, restored, CanRestoreAll, IsLeft, AreAsLeft}
 
 -- what takes an edit back gives its cell the value that it had
@@ -280,11 +280,11 @@ module _ (setting : SettingLaw) (restoring : RestoringLaw) where
   can-restore s (e ∷ es) can =
       (can-restore (put s (write_of s e)) es can.1, subst (λ (t : Cells). CanGiveBack t (back_of s e)) (sym (restored-edited (put s (write_of s e)) es can.1)) (give-edited setting s e can.0))
 
-pub restored-last : (bs : List Back) (b : Back) (s : Cells) → restored s (bs ++ b ∷ []) ≡ restored (restore s b) bs
+pub restored-last : (bs : List BeforeImage) (b : BeforeImage) (s : Cells) → restored s (bs ++ b ∷ []) ≡ restored (restore s b) bs
 restored-last [] b s = refl
 restored-last (x ∷ xs) b s = ap (λ (t : Cells). restore t x) (restored-last xs b s)
 
-pub can-last : (bs : List Back) (b : Back) (s : Cells) → CanRestoreAll s (bs ++ b ∷ []) → CanGiveBack s b × CanRestoreAll (restore s b) bs
+pub can-last : (bs : List BeforeImage) (b : BeforeImage) (s : Cells) → CanRestoreAll s (bs ++ b ∷ []) → CanGiveBack s b × CanRestoreAll (restore s b) bs
 can-last [] b s can = (can.1, tt)
 can-last (x ∷ xs) b s can =
     let rest = can-last xs b s can.0 in (rest.0, (rest.1, subst (λ (t : Cells). CanGiveBack t x) (restored-last xs b s) can.1))
@@ -296,7 +296,7 @@ pub from-place : (es : List Edit) (k : ℕ) (e : Edit) → slice_get es k ≡ So
 from-place es k e is = drop-cons es k e (slice_get_within es k e is) ∙ ap (λ d. d ∷ drop (suc k) es) (get_or_from_slice_get es k e e is)
 
 -- some were made, and these are left
-pub record IsUnderWay (old : Cells) (all : List Edit) (now : Cells) (undo : List Back) (rest : List Edit) : Type 0 where
+pub record IsUnderWay (old : Cells) (all : List Edit) (now : Cells) (undo : List BeforeImage) (rest : List Edit) : Type 0 where
   pub made : List Edit
   pub split : made ++ rest ≡ all
   pub cells : now ≡ edited old made
@@ -317,8 +317,8 @@ shift : (es fs : List Edit) (e : Edit) → (es ++ e ∷ []) ++ fs ≡ es ++ e �
 shift [] fs e = refl
 shift (d ∷ ds) fs e = ap (λ gs. d ∷ gs) (shift ds fs e)
 
-pub under-way-on : (old : Cells) (all : List Edit) (now : Cells) (undo : List Back) (e : Edit) (rest : List Edit) → IsUnderWay old all now undo (e ∷ rest)
-    → (new : Cells) (more : List Back) → new ≡ put now (write_of now e) → more ≡ undo ++ back_of now e ∷ [] → IsUnderWay old all new more rest
+pub under-way-on : (old : Cells) (all : List Edit) (now : Cells) (undo : List BeforeImage) (e : Edit) (rest : List Edit) → IsUnderWay old all now undo (e ∷ rest)
+    → (new : Cells) (more : List BeforeImage) → new ≡ put now (write_of now e) → more ≡ undo ++ back_of now e ∷ [] → IsUnderWay old all new more rest
 under-way-on old all now undo e rest on new more cells backs = record {
   made = on.made ++ e ∷ [];
   split = shift on.made rest e ∙ on.split;
@@ -334,7 +334,7 @@ can-part : (s : Cells) (es rest : List Edit) → CanEditAll s (es ++ rest) → C
 can-part s [] rest can = tt
 can-part s (e ∷ es) rest can = (can.0, can-part (put s (write_of s e)) es rest can.1)
 
-module _ (old : Cells) (all : List Edit) (now : Cells) (undo : List Back) where
+module _ (old : Cells) (all : List Edit) (now : Cells) (undo : List BeforeImage) where
   pub under-way-can : (e : Edit) (rest : List Edit) → CanEditAll old all → IsUnderWay old all now undo (e ∷ rest) → CanEdit now e
   under-way-can e rest can on = subst (λ s. CanEdit s e) (sym on.cells) (can-first old on.made e rest (subst (CanEditAll old) (sym on.split) can))
 
@@ -354,7 +354,7 @@ append-nil [] = refl
 append-nil (e ∷ es) = ap (λ fs. e ∷ fs) (append-nil es)
 
 -- at the end all were made
-pub under-way-end : (old : Cells) (all : List Edit) (now : Cells) (undo : List Back) → IsUnderWay old all now undo [] → (now ≡ edited old all) × (undo ≡ backs_of old all)
+pub under-way-end : (old : Cells) (all : List Edit) (now : Cells) (undo : List BeforeImage) → IsUnderWay old all now undo [] → (now ≡ edited old all) × (undo ≡ backs_of old all)
 under-way-end old all now undo on =
     let all_made = sym (append-nil on.made) ∙ on.split in
     (on.cells ∙ ap (edited old) all_made, on.backs ∙ ap (backs_of old) all_made)
@@ -367,11 +367,11 @@ past-all es k none = elim (slice_get_cases es k).1 [
   | inr past ↦ drop_of_length-le es past.0
 ]
 
-pub one-longer : (bs : List Back) (b : Back) → suc (length bs) ≡ length (bs ++ b ∷ [])
+pub one-longer : (bs : List BeforeImage) (b : BeforeImage) → suc (length bs) ≡ length (bs ++ b ∷ [])
 one-longer [] b = refl
 one-longer (x ∷ xs) b = ap suc (one-longer xs b)
 
-module _ (old : Cells) (all : List Edit) (now : Cells) (undo : List Back) (on : IsUnderWay old all now undo (drop (length undo) all)) where
+module _ (old : Cells) (all : List Edit) (now : Cells) (undo : List BeforeImage) (on : IsUnderWay old all now undo (drop (length undo) all)) where
   next-is : (e : Edit) → slice_get all (length undo) ≡ Some e → IsUnderWay old all now undo (e ∷ drop (suc (length undo)) all)
   next-is e is = subst (IsUnderWay old all now undo) (from-place all (length undo) e is) on
 
@@ -380,7 +380,7 @@ module _ (old : Cells) (all : List Edit) (now : Cells) (undo : List Back) (on : 
   next-can e is can = under-way-can old all now undo e (drop (suc (length undo)) all) can (next-is e is)
 
   -- and is made
-  pub next-made : (e : Edit) → slice_get all (length undo) ≡ Some e → (new : Cells) (more : List Back) → new ≡ put now (write_of now e) → more ≡ undo ++ back_of now e ∷ [] → IsUnderWay old all new more (drop (length more) all)
+  pub next-made : (e : Edit) → slice_get all (length undo) ≡ Some e → (new : Cells) (more : List BeforeImage) → new ≡ put now (write_of now e) → more ≡ undo ++ back_of now e ∷ [] → IsUnderWay old all new more (drop (length more) all)
   next-made e is new more cells backs =
       subst (λ n. IsUnderWay old all new more (drop n all)) (one-longer undo (back_of now e) ∙ sym (ap length backs)) (under-way-on old all now undo e (drop (suc (length undo)) all) (next-is e is) new more cells backs)
 

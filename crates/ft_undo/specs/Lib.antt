@@ -1,4 +1,6 @@
-pub mod Was
+-- What callers cite.
 pub mod Undone
 pub mod Logs
-pub mod Logged
+pub mod LogRecord
+-- What the crate keeps true of itself.
+pub mod Was

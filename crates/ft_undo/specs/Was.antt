@@ -1,4 +1,4 @@
--- What stood in the place of an entry, as it is kept.
+-- What was in the place of an entry, as it is kept.
 use Rattle.std.specs.Prelude.{Option, None, Some}
 use Rattle.ft_cells.specs.declared.node.Form.TheVariants as form
 use Rattle.ft_cells.specs.declared.node.Node.{Node}
@@ -6,7 +6,7 @@ use Rattle.ft_cells.specs.declared.node.Node.TheVariants as node
 use Rattle.ft_undo.specs.declared.entry_was.Was.{Was}
 use Rattle.ft_undo.specs.declared.entry_was.Was.TheVariants.{NoPlace, NoEntry, Dir, File, Link}
 
--- nothing where there was no place
+-- nothing if there was no place
 abbrev pub place_of : Was → Option (Option Node)
 place_of NoPlace = None
 place_of NoEntry = Some None

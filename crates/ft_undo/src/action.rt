@@ -16,19 +16,19 @@ use ft_calls::{Call, Prepared, Reply, prepare};
 use ft_tree::Tree;
 use std::alloc::Global;
 
-/// Makes a call on a tree, and answers its reply and what takes it back: what POSIX.1-2017 says of
-/// the call, as `Call` tells for each. A call that fails by an errno answers `Failed`, and is no
-/// refusal.
+/// Makes a call on a tree, as POSIX.1-2017 describes it and as `Call` documents for each, and
+/// returns its reply and its undo. A call that fails by an errno returns `Failed` as its reply: it
+/// is not refused.
 ///
-/// What the call makes has the stamp as its number, so the stamp is at least 2 and numbers nothing
-/// that is in the tree. The tree is sound before and after, and each number but the stamp that was
-/// free stays so. A call that fails, or only tells, changes nothing.
+/// The stamp becomes the number of what the call makes, so it is at least 2 and numbers nothing in
+/// the tree. The tree is sound before and after. Every other number that was free stays free. A
+/// call that fails, or only reports, changes nothing.
 ///
-/// What takes it back gives each cell that the call wrote its value from before. Each of these
-/// cells has its place after the call, and `revert` may do so wherever each has its place and holds
-/// what the call left in it.
+/// The undo gives each cell that the call wrote its value from before. Each of these cells has its
+/// place after the call. `revert` may apply the undo if each cell has its place and holds what the
+/// call left in it.
 ///
-/// The one refusal is want of memory, and then nothing has changed.
+/// Out of memory is the only refusal, and then nothing has changed.
 pub fn perform(
     alloc: Global,
     tree: &mut Tree,
@@ -38,20 +38,27 @@ pub fn perform(
     requires sound { AreSoundCells tree.old }
     requires free { IsFree tree.old stamp }
 
-    // On the stored cells, and on the plain tree that they are.
+    // About the stored cells, and about the plain tree that they represent.
     ensures reply { IfOk result (λ done. done.0 ≡ (outcome tree.old stamp call.now).reply) }
     ensures stored { OnOk result (tree.new ≡ after tree.old stamp call.now) }
-    ensures plain { IfOk result (λ done. exec (tidy tree.old) stamp call.now ≡ (tidy tree.new, done.0)) }
+    ensures plain { IfOk result
+        (λ done. exec (tidy tree.old) stamp call.now ≡ (tidy tree.new, done.0)) }
     ensures refused { OnErr result (tree.new ≡ tree.old) }
 
     ensures stays_sound { AreSoundCells tree.new }
     ensures stays_free { OnOk result ((k : ℕ) → IsFree tree.old k → k ≢ stamp → IsFree tree.new k) }
     ensures told_alone { IfOk result (λ done. OnlyTells done.0 → tree.new ≡ tree.old) }
 
-    // The inverse, as calls in the abstract have it, and where it may be put to a tree.
-    ensures left { OnOk result (AreAsLeft tree.new tree.new (map written_cell (outcome tree.old stamp call.now).writes)) }
-    ensures inverse { IfOk result (λ done. map given_back done.1 ≡ before posix tree.old (outcome tree.old stamp call.now).writes) }
-    ensures may_revert { IfOk result (λ done. (cells : Cells) → AreAsLeft cells tree.new (map written_cell (outcome tree.old stamp call.now).writes) → CanGiveAllBack cells done.1) }
+    // The inverse, in the form of the abstract calls, and when it may be put to a tree.
+    ensures left { OnOk result
+        (AreAsLeft tree.new tree.new (map written_cell (outcome tree.old stamp call.now).writes)) }
+    ensures inverse { IfOk result
+        (λ done. map given_back done.1
+        ≡ before posix tree.old (outcome tree.old stamp call.now).writes) }
+    ensures may_revert { IfOk result
+        (λ done. (cells : Cells)
+        → AreAsLeft cells tree.new (map written_cell (outcome tree.old stamp call.now).writes)
+        → CanGiveAllBack cells done.1) }
 {
     let Prepared {
         accesses: _,

@@ -1,4 +1,4 @@
-// How a change of a file's bytes is taken back.
+// How a change of a file's bytes is undone.
 ghost use Rattle.std.specs.Prelude.{◌≡◌, ◌≤◌, IfOk, OnOk, OnErr};
 ghost use Rattle.ft_body.specs.declared.TheConstants.{LARGEST_SIZE};
 ghost use Rattle.ft_body.specs.Bytes.{fitting, written, resized};
@@ -9,8 +9,8 @@ use ft_tree::{FileUndo, HintedFile, Tree};
 use std::alloc::{AllocFailed, Global};
 use std::marker::Model;
 
-/// What takes a change of a file's bytes back, with the time that they had. It stands apart, so that
-/// what takes the other edits back is small.
+/// What undoes a change of a file's bytes, with the time that they had. It is a separate type, so
+/// that the other before-images stay small.
 ///
 /// Clauses see it as what the file held before the change and after it.
 pub struct BytesUndo {
@@ -26,7 +26,7 @@ impl Model for BytesUndo {
     ghost view = { λ a. box_value a.undo };
 }
 
-// By hand, so that callers that let one go see one step.
+// By hand, so that callers that drop one see one step.
 impl Drop for BytesUndo {
     fn drop(self) {
         let BytesUndo { undo: _ } = self;
@@ -34,8 +34,8 @@ impl Drop for BytesUndo {
 }
 
 impl BytesUndo {
-    /// Writes bytes to a file at an offset, as `Tree::write_bytes` does, and answers what takes that
-    /// back. If memory is wanting, nothing has changed.
+    /// Writes bytes to a file at an offset, as `Tree::write_bytes` does, and returns what undoes
+    /// that. If there is not enough memory, nothing has changed.
     pub(crate) fn write(
         alloc: Global,
         tree: &mut Tree,
@@ -45,16 +45,23 @@ impl BytesUndo {
     ) -> Result<BytesUndo, Memory>
         requires place { HasFilePlace tree.old file.now }
         requires limit { offset ≤ LARGEST_SIZE }
-        ensures ok { OnOk result (tree.new ≡ put_contents tree.old file.now (untimed (written (bytes_of tree.old file.now) offset (fitting LARGEST_SIZE bytes.now offset)))) }
-        ensures undo { IfOk result (λ undo. undo ≡ record { before = contents_of tree.old file.now; after = contents_of tree.new file.now }) }
+        ensures ok { OnOk result (tree.new
+            ≡ put_contents tree.old file.now
+            (untimed (written (bytes_of tree.old file.now) offset
+            (fitting LARGEST_SIZE bytes.now offset)))) }
+        ensures undo { IfOk result
+            (λ undo. undo ≡ record {
+              before = contents_of tree.old file.now;
+              after = contents_of tree.new file.now;
+            }) }
         ensures err { OnErr result (tree.new ≡ tree.old) }
     {
         let (_, undo) = tree.write_bytes(file.again(), offset, bytes)?;
         BytesUndo::keep(alloc, tree, file.number(), undo)
     }
 
-    /// Cuts a file to a size, or adds zeros up to it, as `Tree::set_size` does, and answers what
-    /// takes that back. If memory is wanting, nothing has changed.
+    /// Cuts a file to a size, or adds zeros up to it, as `Tree::set_size` does, and returns what
+    /// undoes that. If there is not enough memory, nothing has changed.
     pub(crate) fn resize(
         alloc: Global,
         tree: &mut Tree,
@@ -63,16 +70,22 @@ impl BytesUndo {
     ) -> Result<BytesUndo, Memory>
         requires place { HasFilePlace tree.old file.now }
         requires limit { size ≤ LARGEST_SIZE }
-        ensures ok { OnOk result (tree.new ≡ put_contents tree.old file.now (untimed (resized (bytes_of tree.old file.now) size))) }
-        ensures undo { IfOk result (λ undo. undo ≡ record { before = contents_of tree.old file.now; after = contents_of tree.new file.now }) }
+        ensures ok { OnOk result (tree.new
+            ≡ put_contents tree.old file.now
+            (untimed (resized (bytes_of tree.old file.now) size))) }
+        ensures undo { IfOk result
+            (λ undo. undo ≡ record {
+              before = contents_of tree.old file.now;
+              after = contents_of tree.new file.now;
+            }) }
         ensures err { OnErr result (tree.new ≡ tree.old) }
     {
         let undo = tree.set_size(file.again(), size)?;
         BytesUndo::keep(alloc, tree, file.number(), undo)
     }
 
-    /// Keeps what takes a change back that was just made. If memory is wanting, the change is taken
-    /// back.
+    /// Returns what undoes a change that was just made, in a box. If there is not enough memory, it
+    /// undoes the change.
     fn keep(alloc: Global, tree: &mut Tree, file: u64, undo: FileUndo) -> Result<BytesUndo, Memory>
         requires place { HasFilePlace tree.old file }
         requires left { contents_of tree.old file ≡ undo.after }
@@ -89,8 +102,8 @@ impl BytesUndo {
         }
     }
 
-    /// Takes the change back, if the file holds what it left. Takes no memory.
-    pub(crate) fn take_back(self, tree: &mut Tree, file: u64)
+    /// Undoes the change, if the file holds what the change left. Takes no memory.
+    pub(crate) fn roll_back(self, tree: &mut Tree, file: u64)
         requires place { HasFilePlace tree.old file }
         requires left { contents_of tree.old file ≡ self.after }
         ensures { tree.new ≡ put_contents tree.old file self.before }

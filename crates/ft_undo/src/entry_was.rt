@@ -1,10 +1,10 @@
-// What stood in the place of an entry.
+// What was in the place of an entry.
 ghost use Rattle.std.specs.Prelude.{◌≡◌};
 
 use ft_tree::{Form, Node};
 use std::marker::Model;
 
-/// What stood in the place of an entry before it was set, or nothing where the place was new.
+/// What was in the place of an entry before it was set, or nothing if the place was new.
 ///
 /// Clauses see it as that. It takes half the room of the options.
 #[derive(Drop)]
@@ -12,7 +12,7 @@ pub struct EntryWas {
     was: Was,
 }
 
-/// The cases, each with no more than a number.
+/// The cases, each with at most a number.
 #[derive(Clone, Copy)]
 pub(crate) enum Was {
     NoPlace,
@@ -33,7 +33,7 @@ impl Model for EntryWas {
 }
 
 impl EntryWas {
-    /// What was in the place.
+    /// Keeps what was in the place.
     pub(crate) fn new(place: Option<Option<Node>>) -> EntryWas
         ensures { result ≡ place }
     {
@@ -47,7 +47,7 @@ impl EntryWas {
         EntryWas { was }
     }
 
-    /// What was in the place.
+    /// Returns what was in the place.
     pub fn get(&self) -> Option<Option<Node>>
         ensures { result ≡ self.now }
     {

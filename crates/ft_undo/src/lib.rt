@@ -1,4 +1,4 @@
-//! Making calls on a tree, and taking them back.
+//! Making calls on a tree, and undoing them.
 #![tactic(auto)]
 
 mod action;
@@ -11,6 +11,6 @@ mod undo;
 pub use action::perform;
 pub use bytes_undo::BytesUndo;
 pub use entry_was::EntryWas;
-pub use logs::{Logged, Logs};
+pub use logs::{LogRecord, Logs};
 pub use time_undo::TimeUndo;
-pub use undo::{Back, Undo, apply, revert};
+pub use undo::{BeforeImage, Undo, apply, revert};

@@ -1,34 +1,34 @@
-// What takes the calls of each transaction back.
+// The undo logs of the transactions.
 ghost use Rattle.std.specs.Prelude.{◌≡◌, ◌≢◌, ◌<◌, ◌^◌, [], true, false, Some, None, length, OnOk, OnErr, IfErr};
 ghost use Rattle.std.specs.Option.{option_map};
-ghost use Rattle.ft_base.specs.Chains.{list_in};
+ghost use Rattle.ft_base.specs.OwnedLists.{list_in};
 ghost use Rattle.ft_history.specs.Logs.{put, pushed, popped, handed};
-ghost use Rattle.ft_posix.specs.Comes.{writes_of};
+ghost use Rattle.ft_posix.specs.Computes.{writes_of};
 ghost use Rattle.ft_posix.specs.Edits.{CanEditAll, Apart};
 ghost use Rattle.ft_undo.specs.Logs.{is_open, newest_of, AreLists, AreOpen};
-ghost use Rattle.ft_undo.specs.Logged.{IsLogged};
+ghost use Rattle.ft_undo.specs.LogRecord.{IsLogged};
 
 use crate::undo::Undo;
-use ft_base::{Chains, Memory};
+use ft_base::{Memory, OwnedLists};
 use ft_calls::Edits;
 use ft_tree::Tree;
 use std::alloc::{AllocFailed, Global};
 use std::marker::Model;
 
-/// What takes a granted call back, and the call's stamp.
+/// The undo of a granted call, and the call's stamp.
 #[derive(Drop)]
-pub struct Logged {
+pub struct LogRecord {
     pub stamp: u64,
     pub undo: Undo,
 }
 
-/// The undo logs: for each open transaction a list of what takes its calls back, the newest first.
+/// The undo logs: for each open transaction, a list of the undos of its calls, the newest first.
 ///
-/// A transaction is open from its begin to its end. Each call takes the time to find its
-/// transactions by a hash, however many are open and however long their lists are; only `len` and
-/// `close` take the time of the list besides.
+/// A transaction is open from its begin to its end. Each function takes the time to find its
+/// transactions by a hash, however many are open and however long their lists are. Only `len` and
+/// `close` also take the time of the list.
 pub struct Logs {
-    chains: Chains<Logged>,
+    chains: OwnedLists<LogRecord>,
 }
 
 impl Drop for Logs {
@@ -38,11 +38,11 @@ impl Drop for Logs {
 }
 
 impl Model for Logs {
-    ghost use Rattle.ft_base.specs.Chains.{Lists, coded_lists};
-    ghost use Rattle.ft_undo.specs.declared.logs.Logged.{Logged};
-    ghost use Rattle.ft_undo.specs.contracts.logs.Logged as logged;
+    ghost use Rattle.ft_base.specs.OwnedLists.{Lists, coded_lists};
+    ghost use Rattle.ft_undo.specs.declared.logs.LogRecord.{LogRecord};
+    ghost use Rattle.ft_undo.specs.contracts.logs.LogRecord as logged;
 
-    ghost Value = { Lists Logged };
+    ghost Value = { Lists LogRecord };
 
     ghost coded = { coded_lists logged.the_row.coded };
 
@@ -50,25 +50,25 @@ impl Model for Logs {
 }
 
 impl Logs {
-    /// No transaction is open. Takes no memory.
+    /// Returns logs in which no transaction is open. Takes no memory.
     pub fn new(alloc: Global) -> Logs
         ensures lists { AreLists result (λ _. []) }
         ensures opened { AreOpen result (λ _. false) }
     {
         Logs {
-            chains: Chains::new(alloc),
+            chains: OwnedLists::new(alloc),
         }
     }
 
-    /// Whether a transaction is open.
+    /// Returns whether a transaction is open.
     pub fn is_open(&self, txn: u64) -> bool
         ensures { result ≡ is_open self.now txn }
     {
         self.chains.is_open(txn)
     }
 
-    /// Opens a transaction, with an empty list; one that is open keeps its list. Want of memory
-    /// changes nothing.
+    /// Opens a transaction, with an empty list. If it is open already, it keeps its list. If there
+    /// is not enough memory, nothing has changed.
     pub fn open(&mut self, txn: u64) -> Result<(), Memory>
         ensures lists { AreLists self.new (list_in self.old) }
         ensures opened { OnOk result (AreOpen self.new (put (is_open self.old) txn true)) }
@@ -77,29 +77,35 @@ impl Logs {
         self.chains.open(txn)
     }
 
-    /// Puts what takes a call back into a transaction's list, as its newest. Want of memory hands
-    /// it back, and changes nothing.
+    /// Adds the undo of a call to a transaction's list, as its newest. If there is not enough
+    /// memory, it returns the undo and changes nothing.
     pub fn push(&mut self, txn: u64, stamp: u64, undo: Undo) -> Result<(), AllocFailed<Undo>>
         requires { is_open self.old txn ≡ true }
-        ensures lists { OnOk result (AreLists self.new (pushed (list_in self.old) txn (record { stamp = stamp; undo = undo }))) }
+        ensures lists { OnOk result
+            (AreLists self.new (pushed (list_in self.old) txn (record {
+              stamp = stamp;
+              undo = undo;
+            }))) }
         ensures opened { AreOpen self.new (is_open self.old) }
         ensures err { OnErr result (self.new ≡ self.old) }
         ensures undo_returned { IfErr result (λ failed. failed.value ≡ undo) }
     {
-        match self.chains.push_front(txn, Logged { stamp, undo }) {
+        match self.chains.push_front(txn, LogRecord { stamp, undo }) {
             Ok(()) => Ok(()),
             Err(
                 AllocFailed {
-                    value: Logged { stamp: _, undo },
+                    value: LogRecord { stamp: _, undo },
                 },
             ) => Err(AllocFailed { value: undo }),
         }
     }
 
-    /// Makes the edits of a call that was looked at, and keeps what takes them back as the newest of
-    /// a transaction's list, in its place there. Each written cell has its place then.
+    /// Makes the planned edits of a call, and keeps their undo as the newest of a transaction's
+    /// list. Each written cell has its place then. The undo is built directly in its place in the
+    /// list.
     ///
-    /// The one refusal is want of memory: what was done is taken back, and nothing has changed.
+    /// Out of memory is the only refusal. It undoes the edits that were made, and nothing has
+    /// changed.
     pub fn apply(
         &mut self,
         alloc: Global,
@@ -111,14 +117,16 @@ impl Logs {
         requires open { is_open self.old txn ≡ true }
         requires places { CanEditAll tree.old edits.now }
         requires apart { Apart edits.now }
-        ensures made { OnOk result (IsLogged tree.old tree.new (writes_of tree.old edits.now) self.old self.new txn stamp) }
+        ensures made { OnOk result
+            (IsLogged tree.old tree.new (writes_of tree.old edits.now) self.old self.new txn
+            stamp) }
         ensures refused { OnErr result (tree.new ≡ tree.old) }
         ensures kept { OnErr result (AreLists self.new (list_in self.old)) }
         ensures opened { AreOpen self.new (is_open self.old) }
     {
-        // (its place comes first, so that nothing has to be taken back where there is none)
+        // (the place in the list comes first, so that nothing has to be undone if there is none)
         let undo = Undo::new(alloc);
-        if let Err(failed) = self.chains.push_front(txn, Logged { stamp, undo }) {
+        if let Err(failed) = self.chains.push_front(txn, LogRecord { stamp, undo }) {
             drop(failed);
             return Err(Memory);
         }
@@ -130,7 +138,7 @@ impl Logs {
         Ok(())
     }
 
-    /// Gives a child's whole list to its parent, as newer than all that the parent had, and closes
+    /// Moves a child's whole list to its parent, as newer than all that the parent had, and closes
     /// the child (Moss 1981, commit of a subtransaction). Takes no memory.
     pub fn splice(&mut self, child: u64, parent: u64)
         requires child { is_open self.old child ≡ true }
@@ -143,14 +151,14 @@ impl Logs {
         self.chains.close(child);
     }
 
-    /// The stamp of the newest call in a transaction's list, where there is one.
+    /// Returns the stamp of the newest call in a transaction's list, if there is one.
     pub fn newest(&self, txn: u64) -> Option<u64>
         ensures { result ≡ option_map (λ logged. logged.stamp) (newest_of (list_in self.now txn)) }
     {
         Some(self.chains.first(txn)?.stamp)
     }
 
-    /// How many calls are in a transaction's list; none where it is not open.
+    /// Returns the number of calls in a transaction's list, 0 if it is not open.
     pub fn len(&self, txn: u64) -> usize
         requires few { length (list_in self.now txn) < 2 ^ 64 }
         ensures count { result ≡ length (list_in self.now txn) }
@@ -158,9 +166,9 @@ impl Logs {
         self.chains.values(txn).count()
     }
 
-    /// Takes out what takes back the newest call in a transaction's list, where there is one. Takes
-    /// no memory.
-    pub fn take_last(&mut self, txn: u64) -> Option<Logged>
+    /// Removes and returns the record of the newest call in a transaction's list, if there is one.
+    /// Takes no memory.
+    pub fn take_last(&mut self, txn: u64) -> Option<LogRecord>
         ensures newest { result ≡ newest_of (list_in self.old txn) }
         ensures lists { AreLists self.new (popped (list_in self.old) (Some txn)) }
         ensures opened { AreOpen self.new (is_open self.old) }
@@ -168,7 +176,7 @@ impl Logs {
         self.chains.pop_front(txn)
     }
 
-    /// Drops what is in a transaction's list, and closes the transaction (Moss 1981, commit of a
+    /// Drops all of a transaction's list, and closes the transaction (Moss 1981, commit of a
     /// top-level transaction, and abort). Takes no memory.
     pub fn close(&mut self, txn: u64)
         ensures lists { AreLists self.new (handed (list_in self.old) txn None) }

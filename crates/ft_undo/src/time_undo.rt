@@ -1,4 +1,4 @@
-// How the time of a file's bytes is taken back.
+// How setting the time of a file's bytes is undone.
 ghost use Rattle.std.specs.Prelude.{◌≡◌};
 ghost use Rattle.ft_cells.specs.Cells.{contents_of, timed, put_contents, HasFilePlace};
 
@@ -6,10 +6,10 @@ use ft_tree::{HintedFile, Rare, Timestamp, Tree};
 use std::marker::Model;
 use std::snapshot::Snapshot;
 
-/// What takes the setting of the time of a file's bytes back.
+/// What undoes the setting of the time of a file's bytes.
 ///
-/// Clauses see it as what the file held before it and after it. It keeps only the time that the
-/// bytes had: the snapshots have no bytes.
+/// Clauses see it as what the file held before and after. It keeps only the time that the bytes
+/// had: the snapshots have no bytes.
 pub struct TimeUndo {
     time: Rare<Timestamp>,
     file: Snapshot<HintedFile>,
@@ -21,10 +21,13 @@ impl Model for TimeUndo {
 
     ghost Value = { ContentsChange };
 
-    ghost view = { λ a. record { before = timed (contents_of a.after.value a.file.value) a.time; after = contents_of a.after.value a.file.value } };
+    ghost view = { λ a. record {
+      before = timed (contents_of a.after.value a.file.value) a.time;
+      after = contents_of a.after.value a.file.value;
+    } };
 }
 
-// By hand, so that callers that let one go see one step.
+// By hand, so that callers that drop one see one step.
 impl Drop for TimeUndo {
     fn drop(self) {
         let TimeUndo {
@@ -36,12 +39,15 @@ impl Drop for TimeUndo {
 }
 
 impl TimeUndo {
-    /// Sets the time of a file's bytes, or that they have none, and answers what takes that back.
-    /// Takes no memory.
+    /// Sets the time of a file's bytes, or that they have none, and returns what undoes that. Takes
+    /// no memory.
     pub(crate) fn set(tree: &mut Tree, file: HintedFile, to: Rare<Timestamp>) -> TimeUndo
         requires { HasFilePlace tree.old file }
         ensures set { tree.new ≡ put_contents tree.old file (timed (contents_of tree.old file) to) }
-        ensures undo { result ≡ record { before = contents_of tree.old file; after = timed (contents_of tree.old file) to } }
+        ensures undo { result ≡ record {
+          before = contents_of tree.old file;
+          after = timed (contents_of tree.old file) to;
+        } }
     {
         let number = Snapshot::of(&file);
         let time = tree.set_time(file, to);
@@ -52,9 +58,9 @@ impl TimeUndo {
         }
     }
 
-    /// Gives the bytes of a file the time that they had, where it holds what was left. Takes no
-    /// memory.
-    pub(crate) fn take_back(self, tree: &mut Tree, file: u64)
+    /// Gives the bytes of a file the time that they had, if the file holds what the change left.
+    /// Takes no memory.
+    pub(crate) fn roll_back(self, tree: &mut Tree, file: u64)
         requires place { HasFilePlace tree.old file }
         requires left { contents_of tree.old file ≡ self.after }
         ensures { tree.new ≡ put_contents tree.old file self.before }

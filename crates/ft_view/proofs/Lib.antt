@@ -3,3 +3,5 @@ pub mod Free
 pub mod Reading
 pub mod Stepping
 pub mod Useless
+pub mod Prefixes
+pub mod LogAdding

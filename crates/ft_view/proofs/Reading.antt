@@ -10,8 +10,8 @@ use Rattle.ft_cells.specs.declared.cell.Cell.{Cell}
 use Rattle.ft_cells.specs.declared.cell.Cell.TheVariants as cell
 use Rattle.ft_cells.specs.declared.node.Form.TheVariants.{Regular, Link}
 use Rattle.ft_cells.specs.declared.node.Node.TheVariants.{Dir as DirNode, File as FileNode}
-use Rattle.ft_cells.specs.declared.node.Spot.{Spot}
-use Rattle.ft_cells.specs.declared.node.Spot.TheVariants.{Named, Itself}
+use Rattle.ft_cells.specs.declared.node.PathEnd.{PathEnd}
+use Rattle.ft_cells.specs.declared.node.PathEnd.TheVariants.{Named, Itself}
 use Rattle.ft_cells.specs.declared.open_file.OpenFile.{OpenFile}
 use Rattle.ft_cells.specs.declared.open_file.AccessMode.TheVariants.{ReadOnly}
 use Rattle.ft_cells.specs.Cells.{Cells, bytes_of, put_open}
@@ -27,9 +27,9 @@ use Rattle.ft_posix.specs.declared.call.Reply.{Reply}
 use Rattle.ft_posix.specs.declared.call.Reply.TheVariants.{Number, Bytes as BytesReply}
 use Rattle.ft_posix.specs.declared.intent.Edit.{Edit}
 use Rattle.ft_posix.specs.declared.intent.Edit.TheVariants.{Entry, Parent, Links, Overwrite, Resize, Open, DirAttributes, FileAttributes, Time}
-use Rattle.ft_posix.specs.declared.intent.Told.{Told}
+use Rattle.ft_posix.specs.declared.intent.PlannedReply.{PlannedReply}
 use Rattle.ft_posix.specs.declared.intent.Intent.{Intent}
-use Rattle.ft_posix.specs.Comes.{reply_of, writes_of, outcome_of}
+use Rattle.ft_posix.specs.Computes.{reply_of, writes_of, outcome_of}
 use Rattle.ft_posix.specs.Descriptors.{on_open, is_readable, read_open}
 use Rattle.ft_posix.specs.Files.{description, opens, open_spot, open_parts}
 use Rattle.ft_posix.specs.Outcomes.{Write, Outcome, failed}
@@ -49,7 +49,7 @@ flags = record { access = ReadOnly; create = false; excl = false; trunc = false;
 abbrev Opens : ℕ → Outcome → Type 0
 Opens fd o = ((e : Errno) × (o ≡ failed e)) ⊎ ((file : ℕ) × (o ≡ opens fd flags file))
 
-opens_at : (cells : Cells) (fd : ℕ) (end : Result Spot Errno) → Opens fd (answer (or_else failed (λ spot. Answer (open_spot fd flags spot)) end) (view_of cells))
+opens_at : (cells : Cells) (fd : ℕ) (end : Result PathEnd Errno) → Opens fd (answer (or_else failed (λ spot. Answer (open_spot fd flags spot)) end) (view_of cells))
 opens_at cells fd (Err e) = inl (e, refl)
 opens_at cells fd (Ok (Named entry None slash)) = inl (ENOENT, refl)
 opens_at cells fd (Ok (Named entry (Some (DirNode dir)) slash)) = inl (EISDIR, refl)
@@ -97,7 +97,7 @@ opened_alike cells (DirAttributes d to ∷ es) = refl
 opened_alike cells (FileAttributes i to ∷ es) = refl
 opened_alike cells (Time i to ∷ es) = refl
 
-told_alike : (cells : Cells) (file : Option ℕ) (told : Told) → reply_of cells (whole_told file told) ≡ through cells file (reply_of cells told)
+told_alike : (cells : Cells) (file : Option ℕ) (told : PlannedReply) → reply_of cells (whole_told file told) ≡ through cells file (reply_of cells told)
 told_alike cells None told = refl
 told_alike cells (Some file) told = refl
 

@@ -1,5 +1,5 @@
--- The replay of a list of calls on the plain tree, and what is answered then. Each call is made
--- as POSIX says (`exec`).
+-- The replay of a list of calls on the plain tree, and the replies. Each call is made as POSIX says
+-- (`exec`).
 use Rattle.std.specs.Prelude.{◌≡◌, ◌≤◌, ℕ, false, List, [], ◌∷◌}
 use Rattle.ft_cells.specs.declared.cell.Cell.{Cell}
 use Rattle.ft_cells.specs.Cells.{Cells}
@@ -17,12 +17,13 @@ abbrev pub replayed : PlainTree → List StampedCall → PlainTree
 replayed p [] = p
 replayed p (c ∷ cs) = replayed (exec p c.stamp c.call).0 cs
 
--- what each of them replies
+-- the reply of each of the calls
 abbrev pub replies_of : PlainTree → List StampedCall → List Reply
 replies_of p [] = []
 replies_of p (c ∷ cs) = (exec p c.stamp c.call).1 ∷ replies_of (exec p c.stamp c.call).0 cs
 
--- what a call replies on a tree; its number is 2^63 (`READING`), that of no call that was made
+-- the reply of a call on a tree; its number is 2^63 (`READING`), which is no stamp of a call that
+-- was made
 abbrev pub reply_on : PlainTree → Call → Reply
 reply_on p call = (exec p READING call).1
 

@@ -1,4 +1,4 @@
-// What a tree answers to a reader, and which numbers are free in it.
+// The answers of a tree to a reader, and the numbers that are free in it.
 ghost use Rattle.std.specs.Prelude.{◌≡◌, IfOk, IsTrue};
 ghost use Rattle.ft_tree.specs.Sound.{AreSoundCells, IsFree};
 ghost use Rattle.ft_tree.specs.Tidy.{tidy};
@@ -8,27 +8,28 @@ ghost use Rattle.ft_view.specs.Reading.{contents_on, answer_on, opened_in, whole
 use crate::READING;
 use ft_base::Memory;
 use ft_body::LARGEST_SIZE;
-use ft_calls::{Call, Edit, Edits, Intent, Prepared, Reply, Told, prepare};
+use ft_calls::{Call, Edit, Edits, Intent, PlannedReply, Prepared, Reply, prepare};
 use ft_path::FilePath;
 use ft_tree::{AccessMode, HintedFile, ROOT, Tree};
 use std::alloc::Global;
 
-/// What a reader asks of a tree.
+/// A question of a reader to a tree.
 #[derive(Clone, Copy)]
 pub(crate) enum Question<'p> {
-    /// What Stat answers.
+    /// Asks for the reply of Stat.
     Stat(&'p FilePath),
-    /// What Lstat answers.
+    /// Asks for the reply of Lstat.
     Lstat(&'p FilePath),
-    /// What Readlink answers.
+    /// Asks for the reply of Readlink.
     Link(&'p FilePath),
-    /// What List answers.
+    /// Asks for the reply of List.
     List(&'p FilePath),
-    /// What is read of a file.
+    /// Asks for the contents of a file.
     File(&'p FilePath),
 }
 
-/// What a tree answers to a question. It stays as it is, and the one refusal is want of memory.
+/// Returns the answer of a tree to a question. The tree is not changed. Out of memory is the only
+/// refusal.
 pub(crate) fn answer(alloc: Global, tree: &Tree, question: &Question<'_>) -> Result<Reply, Memory>
     requires { IsReadable tree.now }
     ensures { IfOk result (λ reply. reply ≡ answer_on (tidy tree.now) question.now) }
@@ -54,7 +55,7 @@ pub(crate) fn answer(alloc: Global, tree: &Tree, question: &Question<'_>) -> Res
     }
 }
 
-/// What a call replies, which is not made.
+/// Returns the reply of a call, without making the call.
 fn reply(alloc: Global, tree: &Tree, call: &Call) -> Result<Reply, Memory>
     requires { IsReadable tree.now }
     ensures { IfOk result (λ reply. reply ≡ reply_on (tidy tree.now) call.now) }
@@ -66,8 +67,10 @@ fn reply(alloc: Global, tree: &Tree, call: &Call) -> Result<Reply, Memory>
     intent.reply(alloc, tree)
 }
 
-/// What a Read of the whole file replies after an Open for reading, or the error of the Open.
-/// Neither is made: the Open tells which file it opens, and that is read.
+/// Returns the reply of a Read of the whole file after an Open for reading, or the error of the
+/// Open.
+///
+/// Neither call is made: the plan of the Open names the file, which is then read.
 fn contents(alloc: Global, tree: &Tree, path: &FilePath) -> Result<Reply, Memory>
     requires { IsReadable tree.now }
     ensures { IfOk result (λ reply. reply ≡ contents_on (tidy tree.now) path.now) }
@@ -90,9 +93,9 @@ fn contents(alloc: Global, tree: &Tree, path: &FilePath) -> Result<Reply, Memory
     Intent { told, edits }.reply(alloc, tree)
 }
 
-/// What is told of the whole file that a call with these edits is to open, or what the call tells
-/// where it opens none.
-fn whole(told: Told, edits: &Edits<'_>) -> Told
+/// Returns the planned reply of reading the whole file that these edits open. If they open none, it
+/// returns the given reply.
+fn whole(told: PlannedReply, edits: &Edits<'_>) -> PlannedReply
     ensures { result ≡ whole_told (opened_in edits.now) told }
 {
     match edits.as_items().first() {
@@ -101,7 +104,7 @@ fn whole(told: Told, edits: &Edits<'_>) -> Told
                 to: Some(description),
                 ..
             },
-        ) => Told::BytesOf {
+        ) => PlannedReply::BytesOf {
             file: HintedFile::new(description.file),
             at: 0,
             len: LARGEST_SIZE,
@@ -110,8 +113,8 @@ fn whole(told: Told, edits: &Edits<'_>) -> Told
     }
 }
 
-/// Whether a number is free: nothing is stored of it, and nothing names it. A file that is stored
-/// has its number, even where nothing names the file.
+/// Returns true only if a number is free: nothing is stored under it, and nothing names it. A
+/// stored file has its number even if nothing names the file.
 pub(crate) fn is_free(tree: &Tree, number: u64) -> bool
     requires { AreSoundCells tree.now }
     ensures { IsTrue result → IsFree tree.now number }

@@ -1,4 +1,4 @@
-// What a view has no more use for.
+// The parts of a view that are no longer of use.
 ghost use Rattle.std.specs.Prelude.{◌≡◌, ◌<◌, ℕ, None, false, OnOk, OnErr};
 ghost use Rattle.ft_tree.specs.Sound.{AreSoundCells, IsFree};
 ghost use Rattle.ft_tree.specs.Tidy.{tidy};
@@ -15,8 +15,8 @@ use ft_tree::{Keeps, Tree};
 use ft_undo::apply;
 use std::alloc::Global;
 
-/// A cell that a call came upon, to be told once. Nobody keeps a cell of a view: no call is taken
-/// back there.
+/// A cell that a call came upon, to be reported once. No cell of a view is kept, because no call is
+/// undone there.
 #[derive(Drop)]
 struct Passed {
     cell: Option<Cell>,
@@ -27,23 +27,25 @@ impl Keeps for Passed {
 
     ghost kept = { λ _ _. false };
 
-    ghost let_go = { λ a. passed a.cell };
+    ghost released_cells = { λ a. passed a.cell };
 
     ghost all_told = { λ a. record a { cell = None } };
 
+    /// Returns false: no cell is kept.
     fn keeps(&self, _cell: &Cell) -> bool {
         false
     }
 
-    fn take_let_go(&mut self) -> Option<Cell> {
+    /// Removes and returns the cell, if it was not reported yet.
+    fn take_released(&mut self) -> Option<Cell> {
         self.cell.take()
     }
 }
 
-/// Makes a call on a tree, and drops what is of no use after it: the places of names that were
-/// removed, and the bytes of files that are gone. Its reply is not made out.
+/// Makes a call on a tree, and drops what is useless after it: the places of removed names, and the
+/// bytes of removed files. The reply of the call is not made.
 ///
-/// The one refusal is want of memory, and then nothing has changed.
+/// Out of memory is the only refusal, and then nothing has changed.
 pub(crate) fn make(alloc: Global, tree: &mut Tree, stamp: u64, call: &Call) -> Result<(), Memory>
     requires readable { IsReadable tree.old }
     requires below { stamp < READING }
@@ -58,8 +60,8 @@ pub(crate) fn make(alloc: Global, tree: &mut Tree, stamp: u64, call: &Call) -> R
     Ok(())
 }
 
-/// Drops the places that are of no use any more, with the bytes of files that are gone, among those
-/// that a call came upon. The tree stays what it is. Takes no memory.
+/// Drops the useless places, with the bytes of removed files, among those that a call came upon.
+/// The tree that callers see stays the same. Takes no memory.
 fn clear(tree: &mut Tree, accesses: Vec<Access>)
     ensures tidy { tidy tree.new ≡ tidy tree.old }
     ensures dropped { DropsMet accesses.items tree.old tree.new }

@@ -7,9 +7,9 @@ ghost use Rattle.ft_view.specs.Reading.{contents_on, answer_on};
 ghost use Rattle.ft_view.specs.Shown.{IsViewOf};
 
 use crate::answering::{Question, answer};
-use crate::view::{Law, Shows, View};
+use crate::publish_log::{Prefix, ViewsBrand};
+use crate::view::{View, ViewRule, ViewStep};
 use ft_base::Memory;
-use ft_book::{Front, Naming};
 use ft_calls::Reply;
 use ft_path::FilePath;
 use left_right::reader::Reader as Looking;
@@ -20,14 +20,15 @@ use thiserror::Error;
 /// Why a reader gives no answer.
 #[derive(Clone, Copy, Debug, PartialEq, Eq, Error)]
 pub enum ViewFault {
-    /// There was no memory.
+    /// There was not enough memory.
     #[error("Memory")]
     Memory = 1,
-    /// There was no place for one more reader, or no memory for it, which may be tried again; or
-    /// the views are published no more, which is so for good.
+    /// There was no place or no memory for one more reader, and the call may be tried again. Or the
+    /// views are no longer published, and this is permanent.
     ///
-    /// It is also the answer of a view that is older than what the reader knows. There is none: a
-    /// list is published before a receipt of it is given out, and never taken back.
+    /// It would also be the answer for a view that is older than what the reader knows. No such
+    /// view occurs: a list is published before its receipt is given out, and it is never taken
+    /// back.
     #[error("NoReader")]
     NoReader = 2,
 }
@@ -38,22 +39,23 @@ impl From<Memory> for ViewFault {
 
     ghost from_gives = { λ _ fault. fault ≡ Memory };
 
+    /// Returns `ViewFault::Memory`.
     fn from(_memory: Memory) -> ViewFault {
         ViewFault::Memory
     }
 }
 
-/// What looks at the views, with the place that it takes.
-pub type Inner<J> = Looking<View, (), Law<J>>;
+/// A handle to look at the views, with the place that it takes.
+pub type ViewHandle<J> = Looking<View, (), ViewRule<J>>;
 
-/// What one publishing has published: its list. Clauses see the calls.
+/// The receipt of one publication: the list that it published. Clauses see the calls.
 #[derive(Drop)]
-pub struct Receipt<J: Naming> {
-    front: Front,
+pub struct Receipt<J: ViewsBrand> {
+    front: Prefix,
     of: PhantomData<J>,
 }
 
-impl<J: Naming> Model for Receipt<J> {
+impl<J: ViewsBrand> Model for Receipt<J> {
     ghost use Rattle.std.specs.Prelude.{◌≡◌, List};
     ghost use Rattle.ft_posix.specs.declared.stamped.StampedCall.{StampedCall};
 
@@ -64,9 +66,9 @@ impl<J: Naming> Model for Receipt<J> {
     ghost invariant = { λ a. a.front.book ≡ J.opened.book };
 }
 
-impl<J: Naming> Receipt<J> {
-    /// The receipt of a list of the views' book.
-    pub fn new(front: Front) -> Receipt<J>
+impl<J: ViewsBrand> Receipt<J> {
+    /// Returns the receipt of a list of the views' book.
+    pub fn new(front: Prefix) -> Receipt<J>
         requires { front.book ≡ J.opened.book }
         ensures { result ≡ front.calls }
     {
@@ -76,7 +78,7 @@ impl<J: Naming> Receipt<J> {
         }
     }
 
-    /// Another one like it, for one more reader. Takes no memory.
+    /// Returns a copy, for one more reader. Takes no memory.
     pub fn again(&self) -> Receipt<J>
         ensures { result ≡ self.now }
     {
@@ -84,18 +86,20 @@ impl<J: Naming> Receipt<J> {
     }
 }
 
-/// A reader of the views. Clauses see it as what it knows: the longest list that it has seen or was
-/// told of. Each list that it sees later begins with that one.
+/// A reader of the views.
 ///
-/// No call of it waits: it has no handle to do so, and takes no lock.
+/// Clauses see what it knows: the longest list that it has seen or has learned from a receipt. Each
+/// list that it sees later begins with that one.
+///
+/// None of its calls waits: it has no handle to wait with, and takes no lock.
 #[derive(Drop)]
-pub struct Reader<J: Naming> {
+pub struct Reader<J: ViewsBrand> {
     alloc: Global,
-    inner: Option<Inner<J>>,
-    known: Front,
+    inner: Option<ViewHandle<J>>,
+    known: Prefix,
 }
 
-impl<J: Naming> Model for Reader<J> {
+impl<J: ViewsBrand> Model for Reader<J> {
     ghost use Rattle.std.specs.Prelude.{◌≡◌, List};
     ghost use Rattle.ft_posix.specs.declared.stamped.StampedCall.{StampedCall};
 
@@ -106,9 +110,9 @@ impl<J: Naming> Model for Reader<J> {
     ghost invariant = { λ a. a.known.book ≡ J.opened.book };
 }
 
-impl<J: Naming> Reader<J> {
-    /// A reader that has seen nothing, given the empty list of the views' book.
-    pub fn new(alloc: Global, inner: Inner<J>, nothing: Front) -> Reader<J>
+impl<J: ViewsBrand> Reader<J> {
+    /// Returns a reader that has seen nothing, given the empty list of the views' book.
+    pub fn new(alloc: Global, inner: ViewHandle<J>, nothing: Prefix) -> Reader<J>
         requires book { nothing.book ≡ J.opened.book }
         requires empty { nothing.calls ≡ [] }
         ensures { result ≡ [] }
@@ -120,8 +124,8 @@ impl<J: Naming> Reader<J> {
         }
     }
 
-    /// Another reader of the same views, which knows what this one knows. Refuses NoReader where
-    /// there is no place for it, or no memory.
+    /// Returns another reader of the same views, which knows what this one knows. Fails with
+    /// `NoReader` if there is no place or no memory for it.
     pub fn again(&self) -> Result<Reader<J>, ViewFault>
         ensures { IfOk result (λ reader. reader ≡ self.now) }
     {
@@ -138,91 +142,106 @@ impl<J: Naming> Reader<J> {
         }
     }
 
-    /// A receipt of what it knows: a reader that learns it sees no older list from then on. Takes
-    /// no memory.
+    /// Returns a receipt of what the reader knows. A reader that learns it sees no older list from
+    /// then on. Takes no memory.
     pub fn receipt(&self) -> Receipt<J>
         ensures { result ≡ self.now }
     {
         Receipt::new(self.known.again())
     }
 
-    /// Takes in what a receipt tells: each list that the reader sees from now on begins with that
-    /// of the receipt.
+    /// Learns from a receipt: each list that the reader sees from now on begins with that of the
+    /// receipt.
     pub fn learn(&mut self, receipt: Receipt<J>)
         ensures one { (self.new ≡ self.old) ⊎ (self.new ≡ receipt) }
         ensures before { IsPrefix self.old self.new }
         ensures told { IsPrefix receipt self.new }
     {
-        self.known = self.known.longer(&receipt.front);
+        self.known = self.known.max(&receipt.front);
     }
 
-    /// How many calls the list of the view has, and what Stat answers on the view's tree. The list
-    /// begins with what was seen before and with that of each receipt learnt, and is whole
-    /// (`shows`): of a core that is shared these are the committed calls, with each top-level
-    /// transaction's or without, and never half of them.
+    /// Returns the number of calls in the list of the view, and the reply of Stat on the view's
+    /// tree.
     ///
-    /// Refuses want of memory, and NoReader; the reader knows what it knew then.
+    /// The list begins with the list seen before and with that of each receipt learned. It is whole
+    /// (`shows`). For a shared core it has the committed calls: those of each top-level transaction
+    /// all together, or none of them.
+    ///
+    /// Fails with `Memory` or `NoReader`. The reader then knows only what it knew before.
     pub fn stat(&mut self, path: &FilePath) -> Result<(u64, Reply), ViewFault>
         ensures before { IsPrefix self.old self.new }
         ensures whole { OnOk result (J.shows self.new) }
         ensures count { IfOk result (λ told. told.0 ≡ length self.new) }
-        ensures reply { IfOk result (λ told. told.1 ≡ reply_on (replayed J.opened.base self.new) (Stat path.now)) }
+        ensures reply { IfOk result
+            (λ told. told.1 ≡ reply_on (replayed J.opened.base self.new) (Stat path.now)) }
         ensures refused { OnErr result (self.new ≡ self.old) }
     {
-        self.ask(&Question::Stat(path))
+        self.query(&Question::Stat(path))
     }
 
-    /// The same of Lstat, which tells of a symbolic link itself.
+    /// Returns the number of calls in the list of the view, and the reply of Lstat, which describes
+    /// a symbolic link itself. The list and the faults are those of `stat`.
     pub fn lstat(&mut self, path: &FilePath) -> Result<(u64, Reply), ViewFault>
         ensures before { IsPrefix self.old self.new }
         ensures whole { OnOk result (J.shows self.new) }
         ensures count { IfOk result (λ told. told.0 ≡ length self.new) }
-        ensures reply { IfOk result (λ told. told.1 ≡ reply_on (replayed J.opened.base self.new) (Lstat path.now)) }
+        ensures reply { IfOk result
+            (λ told. told.1 ≡ reply_on (replayed J.opened.base self.new) (Lstat path.now)) }
         ensures refused { OnErr result (self.new ≡ self.old) }
     {
-        self.ask(&Question::Lstat(path))
+        self.query(&Question::Lstat(path))
     }
 
-    /// The same of Readlink: the target of a symbolic link.
+    /// Returns the number of calls in the list of the view, and the reply of Readlink: the target
+    /// of a symbolic link. The list and the faults are those of `stat`.
     pub fn read_link(&mut self, path: &FilePath) -> Result<(u64, Reply), ViewFault>
         ensures before { IsPrefix self.old self.new }
         ensures whole { OnOk result (J.shows self.new) }
         ensures count { IfOk result (λ told. told.0 ≡ length self.new) }
-        ensures reply { IfOk result (λ told. told.1 ≡ reply_on (replayed J.opened.base self.new) (Readlink path.now)) }
+        ensures reply { IfOk result
+            (λ told. told.1 ≡ reply_on (replayed J.opened.base self.new) (Readlink path.now)) }
         ensures refused { OnErr result (self.new ≡ self.old) }
     {
-        self.ask(&Question::Link(path))
+        self.query(&Question::Link(path))
     }
 
-    /// The same of List.
+    /// Returns the number of calls in the list of the view, and the reply of List. The list of
+    /// calls and the faults are those of `stat`.
     pub fn list(&mut self, path: &FilePath) -> Result<(u64, Reply), ViewFault>
         ensures before { IsPrefix self.old self.new }
         ensures whole { OnOk result (J.shows self.new) }
         ensures count { IfOk result (λ told. told.0 ≡ length self.new) }
-        ensures reply { IfOk result (λ told. told.1 ≡ reply_on (replayed J.opened.base self.new) (List path.now)) }
+        ensures reply { IfOk result
+            (λ told. told.1 ≡ reply_on (replayed J.opened.base self.new) (List path.now)) }
         ensures refused { OnErr result (self.new ≡ self.old) }
     {
-        self.ask(&Question::List(path))
+        self.query(&Question::List(path))
     }
 
-    /// The same of what is in a file: what a Read of as many bytes as a file may have answers after
-    /// an Open for reading, without flags, or the error of that Open. No descriptor is left open.
+    /// Returns the number of calls in the list of the view, and the contents of a file. The list
+    /// and the faults are those of `stat`.
+    ///
+    /// The contents are the reply of a Read after an Open for reading without flags, or the error
+    /// of that Open. The Read is of as many bytes as a file may have. No descriptor is left open.
     pub fn read_file(&mut self, path: &FilePath) -> Result<(u64, Reply), ViewFault>
         ensures before { IsPrefix self.old self.new }
         ensures whole { OnOk result (J.shows self.new) }
         ensures count { IfOk result (λ told. told.0 ≡ length self.new) }
-        ensures reply { IfOk result (λ told. told.1 ≡ contents_on (replayed J.opened.base self.new) path.now) }
+        ensures reply { IfOk result
+            (λ told. told.1 ≡ contents_on (replayed J.opened.base self.new) path.now) }
         ensures refused { OnErr result (self.new ≡ self.old) }
     {
-        self.ask(&Question::File(path))
+        self.query(&Question::File(path))
     }
 
-    /// What is answered to a question.
-    fn ask(&mut self, question: &Question<'_>) -> Result<(u64, Reply), ViewFault>
+    /// Returns the number of calls in the list of the view, and the answer to a question. Fails
+    /// with `Memory` or `NoReader`.
+    fn query(&mut self, question: &Question<'_>) -> Result<(u64, Reply), ViewFault>
         ensures before { IsPrefix self.old self.new }
         ensures whole { OnOk result (J.shows self.new) }
         ensures count { IfOk result (λ told. told.0 ≡ length self.new) }
-        ensures reply { IfOk result (λ told. told.1 ≡ answer_on (replayed J.opened.base self.new) question.now) }
+        ensures reply { IfOk result
+            (λ told. told.1 ≡ answer_on (replayed J.opened.base self.new) question.now) }
         ensures refused { OnErr result (self.new ≡ self.old) }
     {
         let Some(inner) = self.inner.take() else {
@@ -234,22 +253,24 @@ impl<J: Naming> Reader<J> {
     }
 }
 
-/// Looks at the view that was published last.
-fn look<J: Naming>(
+/// Puts a question to the view that was published last, and returns the handle with the answer. If
+/// no view can be read, the answer is `NoReader`.
+fn look<J: ViewsBrand>(
     alloc: Global,
-    inner: Inner<J>,
-    known: &mut Front,
+    inner: ViewHandle<J>,
+    known: &mut Prefix,
     question: &Question<'_>,
-) -> (Inner<J>, Result<(u64, Reply), ViewFault>)
+) -> (ViewHandle<J>, Result<(u64, Reply), ViewFault>)
     requires { known.old.book ≡ J.opened.book }
     ensures book { known.new.book ≡ J.opened.book }
     ensures before { IsPrefix known.old.calls known.new.calls }
     ensures whole { OnOk result.1 (J.shows known.new.calls) }
     ensures count { IfOk result.1 (λ told. told.0 ≡ length known.new.calls) }
-    ensures reply { IfOk result.1 (λ told. told.1 ≡ answer_on (replayed J.opened.base known.new.calls) question.now) }
+    ensures reply { IfOk result.1 (λ told. told.1
+        ≡ answer_on (replayed J.opened.base known.new.calls) question.now) }
     ensures refused { OnErr result.1 (known.new ≡ known.old) }
 {
-    match inner.enter_as::<Shows<J>>() {
+    match inner.enter_as::<ViewStep<J>>() {
         Ok(reading) => {
             let told = tell::<J>(alloc, reading.get(), known, question);
             (reading.leave(), told)
@@ -258,11 +279,14 @@ fn look<J: Naming>(
     }
 }
 
-/// What a view tells one who knows of this list.
-fn tell<J: Naming>(
+/// Returns the number of calls in the list of a view, and the answer of its tree to a question. The
+/// list then replaces the known one.
+///
+/// Fails with `Memory`, or with `NoReader` if the list does not begin with the known one.
+fn tell<J: ViewsBrand>(
     alloc: Global,
     view: &View,
-    known: &mut Front,
+    known: &mut Prefix,
     question: &Question<'_>,
 ) -> Result<(u64, Reply), ViewFault>
     requires view { IsViewOf J.opened J.shows view.now }
@@ -271,12 +295,13 @@ fn tell<J: Naming>(
     ensures before { IsPrefix known.old.calls known.new.calls }
     ensures whole { OnOk result (J.shows known.new.calls) }
     ensures count { IfOk result (λ told. told.0 ≡ length known.new.calls) }
-    ensures reply { IfOk result (λ told. told.1 ≡ answer_on (replayed J.opened.base known.new.calls) question.now) }
+    ensures reply { IfOk result
+        (λ told. told.1 ≡ answer_on (replayed J.opened.base known.new.calls) question.now) }
     ensures refused { OnErr result (known.new ≡ known.old) }
 {
     let shown = view.front();
-    // It always does: what is published later is no shorter.
-    if !known.begins(shown) {
+    // The list always begins so: a list that is published later is no shorter.
+    if !known.is_prefix_of(shown) {
         return Err(ViewFault::NoReader);
     }
     let reply = answer(alloc, view.tree(), question)?;

@@ -12,10 +12,10 @@ use ft_tree::Tree;
 use ft_undo::perform;
 use std::alloc::Global;
 
-/// A new tree, as the calls leave it when they are made one after another, and the reply of each,
-/// in their order; a call that fails replies `Failed`. The tree itself stays as it is.
+/// Returns a new tree, in the state after these calls were made one after another, and the reply of
+/// each, in their order. A call that fails replies `Failed`. The given tree is not changed.
 ///
-/// The stamps are free in the tree, and no two are the same. The one refusal is want of memory.
+/// The stamps are free in the tree, and no two are the same. Out of memory is the only refusal.
 pub fn replay(
     alloc: Global,
     tree: &Tree,

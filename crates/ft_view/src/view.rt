@@ -1,4 +1,4 @@
-// What is published: a tree with the list of calls that it is the replay of.
+// The published value: a tree with the list of calls whose replay it is.
 ghost use Rattle.std.specs.Prelude.{◌≡◌};
 ghost use Rattle.ft_tree.specs.Tidy.{tidy};
 ghost use Rattle.ft_view.specs.Replay.{IsReadable};
@@ -6,8 +6,8 @@ ghost use Rattle.ft_view.specs.Replay.{IsReadable};
 use crate::READING;
 use crate::answering::is_free;
 use crate::clearing::make;
+use crate::publish_log::{Prefix, ViewsBrand};
 use crossbeam_utils::rule::{Outcome, Protocol};
-use ft_book::{Front, Naming};
 use ft_posix::StampedCall;
 use ft_tree::Tree;
 use left_right::Absorb;
@@ -16,12 +16,13 @@ use std::alloc::{AllocError, Global};
 use std::marker::{Model, PhantomData};
 
 /// A tree and a list of calls. Under the rule of the views the tree is the replay of the list.
-/// Clauses see the plain tree and the list; the code has the tree and the length of the list.
+///
+/// Clauses see the plain tree and the list. The code has the tree and the length of the list.
 #[derive(Drop)]
 pub struct View {
     alloc: Global,
     tree: Tree,
-    front: Front,
+    front: Prefix,
 }
 
 impl Model for View {
@@ -38,20 +39,20 @@ impl Model for View {
     ghost invariant = { λ a. IsReadable a.tree };
 }
 
-/// A call to publish, and the list that it ends.
+/// A call to publish, and the list that ends with it.
 #[derive(Drop)]
 pub struct Published {
     pub call: StampedCall,
-    pub front: Front,
+    pub front: Prefix,
 }
 
-/// The rule of the views that are meant by a name: what readers take is the replay of a list of
-/// their book, and the list is whole.
-pub struct Law<J: Naming> {
+/// The rule of the views that a name refers to: readers take the replay of a list of their book,
+/// and the list is whole.
+pub struct ViewRule<J: ViewsBrand> {
     of: PhantomData<J>,
 }
 
-impl<J: Naming> Protocol<View, ()> for Law<J> {
+impl<J: ViewsBrand> Protocol<View, ()> for ViewRule<J> {
     ghost use Rattle.ft_view.specs.Shown.{IsViewOf};
 
     ghost holds = { λ x views. IsViewOf J.opened J.shows x };
@@ -59,23 +60,24 @@ impl<J: Naming> Protocol<View, ()> for Law<J> {
     ghost first = { tt };
 }
 
-/// What a step under the rule tells: what readers take then is such a view.
-pub struct Shows<J: Naming> {
+/// The outcome of a step under the rule: readers then take such a view.
+pub struct ViewStep<J: ViewsBrand> {
     of: PhantomData<J>,
 }
 
-impl<J: Naming> Outcome<View, ()> for Shows<J> {
+impl<J: ViewsBrand> Outcome<View, ()> for ViewStep<J> {
     ghost use Rattle.ft_view.specs.Shown.{IsViewOf};
 
     ghost then = { λ v x y w. IsViewOf J.opened J.shows y };
 }
 
-/// What publishes views, one call after another.
-pub type Writing<J> = Writer<View, Published, (), Law<J>>;
+/// A writer that publishes views, one call after another.
+pub type ViewWriter<J> = Writer<View, Published, (), ViewRule<J>>;
 
 impl View {
-    /// A tree with a list. For the views of a name these are their base and the empty list.
-    pub fn new(alloc: Global, tree: Tree, front: Front) -> View
+    /// Returns a tree with a list. For the views that a name refers to, these are their base and
+    /// the empty list.
+    pub fn new(alloc: Global, tree: Tree, front: Prefix) -> View
         requires { IsReadable tree }
         ensures tree { result.tree ≡ tidy tree }
         ensures list { result.front ≡ front }
@@ -83,14 +85,14 @@ impl View {
         View { alloc, tree, front }
     }
 
-    /// Its list, of which it has the length.
-    pub fn front(&self) -> &Front
+    /// Returns the list of the view, of which the code has the length.
+    pub fn front(&self) -> &Prefix
         ensures { result.now ≡ self.now.front }
     {
         &self.front
     }
 
-    /// Its tree.
+    /// Returns the tree of the view.
     pub fn tree(&self) -> &Tree
         ensures tree { tidy result.now ≡ self.now.tree }
         ensures readable { IsReadable result.now }
@@ -100,7 +102,7 @@ impl View {
 }
 
 impl Absorb<Published> for View {
-    // No value of it is made.
+    /// No value of this type is made.
     type State = View;
 
     ghost use Rattle.ft_view.specs.Shown.{advanced};
@@ -109,9 +111,10 @@ impl Absorb<Published> for View {
 
     ghost applied = { λ v published. advanced v published.call published.front };
 
-    /// Makes the call on the tree, and drops what it leaves of no use. Where it is not taken in
-    /// nothing changes: there is no memory, or its stamp numbers something already, as that of no
-    /// committed call does.
+    /// Makes the call on the tree, and drops what is useless after it.
+    ///
+    /// The call fails, and nothing changes, if there is not enough memory or if its stamp already
+    /// numbers something. The stamp of a committed call never does.
     fn absorb_first(&mut self, operation: &Published, _other: &View) -> Result<(), AllocError> {
         let StampedCall { stamp, call } = &operation.call;
         if *stamp >= READING || !is_free(&self.tree, *stamp) {

@@ -14,3 +14,4 @@ pub mod Once
 pub mod Judged
 pub mod Passing
 pub mod Edging
+pub mod Broken

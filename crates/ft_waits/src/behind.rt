@@ -58,7 +58,8 @@ fn who_wait(alloc: Global, edges: Vec<Edge>, txn: TxnId) -> Result<Table<()>, Me
 
 /// Finds those from which edges lead to one that was found, and leaves the edges that do not.
 fn pass(alloc: Global, rest: Vec<Edge>, found: &mut Table<()>) -> Result<Vec<Edge>, Memory>
-    ensures { IfOk result (λ left. IsPass rest.items left.items (λ u. finite.contains_key found.old u) (λ u. finite.contains_key found.new u)) }
+    ensures { IfOk result (λ left. IsPass rest.items
+        left.items (λ u. finite.contains_key found.old u) (λ u. finite.contains_key found.new u)) }
 {
     let mut left = Vec::new(alloc);
     for edge in rest {
@@ -73,7 +74,8 @@ fn pass(alloc: Global, rest: Vec<Edge>, found: &mut Table<()>) -> Result<Vec<Edg
 
 /// Returns those of some transactions that are not among others.
 fn others(alloc: Global, txns: &[TxnId], among: &Table<()>) -> Result<Vec<TxnId>, Memory>
-    ensures { IfOk result (λ list. list.items ≡ filter (λ u. not (finite.contains_key among.now u)) txns.now) }
+    ensures { IfOk result (λ list. list.items
+        ≡ filter (λ u. not (finite.contains_key among.now u)) txns.now) }
 {
     let list = txns
         .iter()

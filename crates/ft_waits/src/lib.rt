@@ -6,8 +6,10 @@ mod edge;
 mod listing;
 mod verdict;
 mod walk;
+mod youngest;
 
 pub use behind::ahead_of;
 pub use edge::{Edge, EdgeKind};
 pub use listing::{edges, judged_edges, with_verdict};
 pub use verdict::{Verdict, judge};
+pub use youngest::youngest_on_cycle;

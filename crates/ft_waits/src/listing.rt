@@ -54,7 +54,8 @@ pub fn with_verdict(edges: Vec<Edge>) -> Result<(Vec<Edge>, Verdict), Memory>
 
 /// Lists for each of these waits an edge to each blocker.
 pub(crate) fn list_waits(edges: &mut Vec<Edge>, waits: &[Pending]) -> Result<(), Memory>
-    ensures { OnOk result (edges.new.items ≡ edges.old.items ++ flat_map (λ wait. lock_edges (as_wait wait)) waits.now) }
+    ensures { OnOk result (edges.new.items ≡ edges.old.items
+        ++ flat_map (λ wait. lock_edges (as_wait wait)) waits.now) }
 {
     for wait in waits {
         list_wait(edges, wait)?;

@@ -44,6 +44,7 @@ pub fn judge(alloc: Global, edges: &[Edge]) -> Result<Verdict, Memory>
     judge_sorted(alloc, sorted.as_slice())
 }
 
+/// Returns the verdict on edges that are in the order of the transactions from which they lead.
 fn judge_sorted(alloc: Global, edges: &[Edge]) -> Result<Verdict, Memory>
     requires { AreInOrder edges.now }
     ensures { IfOk result (IsVerdict edges.now) }
@@ -60,7 +61,8 @@ fn judge_sorted(alloc: Global, edges: &[Edge]) -> Result<Verdict, Memory>
 
 /// Turns a cycle so that its least member comes first.
 fn turn_to_least(members: &mut [TxnId])
-    ensures turned { (place : ℕ) × (members.new ≡ drop place members.old ++ take place members.old) }
+    ensures turned { (place : ℕ)
+        × (members.new ≡ drop place members.old ++ take place members.old) }
     ensures least { BeginsWithLeast members.new }
 {
     let place = place_of_least(members);

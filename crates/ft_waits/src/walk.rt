@@ -29,7 +29,8 @@ impl Step {
         requires { AreInOrder edges.now }
         ensures txn { result.txn ≡ txn }
         ensures within { result.end ≤ length edges.now }
-        ensures ahead { (to : ℕ) → LeadTo (ahead_of edges.now result) to ↔ HasEdge edges.now txn to }
+        ensures ahead { (to : ℕ)
+            → LeadTo (ahead_of edges.now result) to ↔ HasEdge edges.now txn to }
         ensures rank { result.rank ≡ 0 }
     {
         let next = edges.partition_point(|edge| edge.from < txn);
@@ -94,11 +95,14 @@ impl<'a> Walk<'a> {
         requires at_rest { self.old.path.items ≡ [] }
         requires named { IsNamed self.old.edges.now root }
         ensures edges { self.new.edges ≡ self.old.edges }
-        ensures cycle { IfOk result (λ found. IfSome found (λ members. IsCycle self.old.edges.now members.items)) }
-        ensures distinct { IfOk result (λ found. IfSome found (λ members. IsDistinct nat_eq members.items)) }
+        ensures cycle { IfOk result
+            (λ found. IfSome found (λ members. IsCycle self.old.edges.now members.items)) }
+        ensures distinct { IfOk result
+            (λ found. IfSome found (λ members. IsDistinct nat_eq members.items)) }
         ensures stands { IfOk result (λ found. IfNone found (Stands self.new [])) }
         ensures at_rest { IfOk result (λ found. IfNone found (self.new.path.items ≡ [])) }
-        ensures ranked { IfOk result (λ found. IfNone found (finite.contains_key self.new.ranks root ≡ true)) }
+        ensures ranked { IfOk result
+            (λ found. IfNone found (finite.contains_key self.new.ranks root ≡ true)) }
         ensures keeps { KeepsRanks self.old.ranks self.new.ranks }
     {
         let Some(mut top) = self.enter(root) else {
@@ -126,10 +130,13 @@ impl<'a> Walk<'a> {
         requires { AreInOrder self.old.edges.now }
         ensures others { self.new ≡ record self.old { unseen = self.new.unseen } }
         ensures unseen { self.new.unseen ≡ finite.remove self.old.unseen txn }
-        ensures seen { IfNone result ((self.new ≡ self.old) × (finite.get self.old.unseen txn ≡ None)) }
-        ensures fewer { OnSome result (finite.len self.new.unseen + 1 ≡ finite.len self.old.unseen) }
+        ensures seen { IfNone result ((self.new ≡ self.old)
+            × (finite.get self.old.unseen txn ≡ None)) }
+        ensures fewer { OnSome result (finite.len self.new.unseen + 1
+            ≡ finite.len self.old.unseen) }
         ensures txn { IfSome result (λ step. step.txn ≡ txn) }
-        ensures stands { IfSome result (λ step. (steps : _) → Stands self.old steps → Stands self.new (steps ++ step ∷ [])) }
+        ensures stands { IfSome result
+            (λ step. (steps : _) → Stands self.old steps → Stands self.new (steps ++ step ∷ [])) }
     {
         self.unseen.remove(txn.0)?;
         Some(Step::new(self.edges, txn))
@@ -163,7 +170,8 @@ impl<'a> Walk<'a> {
         ensures edges { self.new.edges ≡ self.old.edges }
         ensures unseen { self.new.unseen ≡ self.old.unseen }
         ensures stands { OnOk result (Stands self.new self.old.path.items) }
-        ensures path { IfOk result (λ below. self.old.path.items ≡ self.new.path.items ++ option_to_list below) }
+        ensures path { IfOk result
+            (λ below. self.old.path.items ≡ self.new.path.items ++ option_to_list below) }
         ensures empty { IfOk result (λ below. IfNone below (self.new.path.items ≡ [])) }
         ensures keeps { KeepsRanks self.old.ranks self.new.ranks }
     {
@@ -173,7 +181,8 @@ impl<'a> Walk<'a> {
 
     /// The transactions on the path, from one of them on.
     fn path_from(&self, txn: TxnId) -> Result<Vec<TxnId>, Memory>
-        ensures { IfOk result (λ members. members.items ≡ from_first txn (path_txns self.now.path.items)) }
+        ensures { IfOk result (λ members. members.items
+            ≡ from_first txn (path_txns self.now.path.items)) }
     {
         let members = self
             .path
@@ -187,7 +196,8 @@ impl<'a> Walk<'a> {
 
 /// The transactions that edges name.
 fn txns_named(alloc: Global, edges: &[Edge]) -> Result<Table<()>, Memory>
-    ensures { IfOk result (λ txns. (txn : ℕ) → finite.contains_key txns txn ≡ true ↔ IsNamed edges.now txn) }
+    ensures { IfOk result (λ txns. (txn : ℕ)
+        → finite.contains_key txns txn ≡ true ↔ IsNamed edges.now txn) }
 {
     let mut txns = Table::new(alloc);
     for edge in edges {

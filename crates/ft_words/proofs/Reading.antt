@@ -7,7 +7,7 @@ use Rattle.std.specs.Str.{bytes_eq}
 use Rattle.ft_posix.specs.declared.call.Call.{Call}
 use Rattle.ft_words.specs.declared.verbs.Verb.{Verb}
 use Rattle.ft_words.specs.declared.verbs.TheConstants.{VERBS, DESCRIPTOR_VERBS}
-use Rattle.ft_words.specs.Calls.{look_up, both, three, call_of, read_by, descriptor_calls}
+use Rattle.ft_words.specs.Calls.{look_up, both, three, parse_call, read_by, descriptor_calls}
 use Rattle.ft_words.specs.Arguments.{first, others}
 use Rattle.ft_words.specs.Verbs.{word, words_of, call_by}
 
@@ -36,7 +36,7 @@ found [] name = refl
 found (verb ∷ verbs) name = by_test (bytes_eq name (word verb)) _ verb _ (found verbs name)
 
 -- a call by its verb
-pub call_of_verb : (name : List ℕ) (words : List (List ℕ)) → call_of name words ≡ option_and_then (λ read. read words) (option_map call_by (look_up (words_of VERBS) name))
+pub call_of_verb : (name : List ℕ) (words : List (List ℕ)) → parse_call name words ≡ option_and_then (λ read. read words) (option_map call_by (look_up (words_of VERBS) name))
 call_of_verb name words = ap (λ o. option_and_then (λ read. read words) o) (found VERBS name)
 
 pub descriptor_call_of_verb : (name : List ℕ) (words : List (List ℕ)) → read_by descriptor_calls name words ≡ option_and_then (λ read. read words) (option_map call_by (look_up (words_of DESCRIPTOR_VERBS) name))

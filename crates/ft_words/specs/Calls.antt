@@ -9,10 +9,10 @@ use Rattle.ft_posix.specs.declared.call.Call.TheVariants as calls
 use Rattle.ft_posix.specs.declared.call.OpenFlags.{OpenFlags}
 use Rattle.ft_posix.specs.declared.call.Whence.{Whence}
 use Rattle.ft_posix.specs.declared.call.Whence.TheVariants.{Set, Cur, End}
-use Rattle.ft_words.specs.declared.unread.Unread.{Unread}
-use Rattle.ft_words.specs.declared.unread.Unread.TheVariants.{Misspelt, NoMemory}
-use Rattle.ft_words.specs.Spelling.{number_of, short_number_of, integer_of, path_of, data_of}
-use Rattle.ft_words.specs.Modes.{mode_of, owner_of}
+use Rattle.ft_words.specs.declared.parse_error.ParseError.{ParseError}
+use Rattle.ft_words.specs.declared.parse_error.ParseError.TheVariants.{Misspelt, NoMemory}
+use Rattle.ft_words.specs.Spelling.{parse_u64, parse_u32, parse_i64, parse_path, parse_data}
+use Rattle.ft_words.specs.Modes.{parse_mode, parse_owner}
 
 -- what stands behind a word in a table of words
 abbrev pub look_up : {A : Type 0} → List (List ℕ × A) → List ℕ → Option A
@@ -51,19 +51,19 @@ three first second others words = option_map (λ p. (p.0, p.1.0, p.1.1)) (both f
 
 -- a path alone
 abbrev pub without_mode : List ℕ → Option (Option ℕ × List ℕ)
-without_mode path = option_map (λ p. (None, p)) (path_of path)
+without_mode path = option_map (λ p. (None, p)) (parse_path path)
 
 -- a mode and a path, each by its word
 abbrev pub with_mode : List ℕ → List ℕ → Option (Option ℕ × List ℕ)
-with_mode mode path = option_and_then (λ m. option_map (λ p. (Some m, p)) (path_of path)) (mode_of mode)
+with_mode mode path = option_and_then (λ m. option_map (λ p. (Some m, p)) (parse_path path)) (parse_mode mode)
 
 -- `P` or `MODE P`: one word alone is a path, also one that might be a mode, and of two words the
 -- first is a mode. So a path behind a mode may be empty, but not absent.
-abbrev pub optional_mode_path : List (List ℕ) → Option (Option ℕ × List ℕ)
-optional_mode_path [] = without_mode []
-optional_mode_path (word ∷ []) = without_mode word
-optional_mode_path (word ∷ other ∷ []) = with_mode word other
-optional_mode_path (word ∷ other ∷ more ∷ words) = None
+abbrev pub parse_optional_mode_path : List (List ℕ) → Option (Option ℕ × List ℕ)
+parse_optional_mode_path [] = without_mode []
+parse_optional_mode_path (word ∷ []) = without_mode word
+parse_optional_mode_path (word ∷ other ∷ []) = with_mode word other
+parse_optional_mode_path (word ∷ other ∷ more ∷ words) = None
 
 -- whether a text begins with a letter, and what stands behind it
 abbrev pub split_letter : ℕ → List ℕ → Bool × List ℕ
@@ -80,12 +80,12 @@ access_of false false = None
 -- the mode that `=MODE` gives, behind the letters; none where nothing stands there
 abbrev pub given_mode : List ℕ → Option (Option ℕ)
 given_mode [] = Some None
-given_mode (b ∷ bs) = if b == 61 then option_map Some (mode_of bs) else None
+given_mode (b ∷ bs) = if b == 61 then option_map Some (parse_mode bs) else None
 
 -- FLAGS: `r`, `w` or `rw`, and then any of `c`, `x`, `t` and `a`, each at most once, in this
 -- order, and behind them nothing or `=MODE`, the mode of a file that is made
-abbrev pub flags_of : List ℕ → Option OpenFlags
-flags_of word =
+abbrev pub parse_flags : List ℕ → Option OpenFlags
+parse_flags word =
     let read = split_letter 114 word in
     let write = split_letter 119 read.1 in
     let create = split_letter 99 write.1 in
@@ -99,8 +99,8 @@ abbrev pub whence_words : List (List ℕ × Whence)
 whence_words = (codes "set", Set) ∷ (codes "cur", Cur) ∷ (codes "end", End) ∷ []
 
 -- what such a word asks for
-abbrev pub whence_of : List ℕ → Option Whence
-whence_of word = look_up whence_words word
+abbrev pub parse_whence : List ℕ → Option Whence
+parse_whence word = look_up whence_words word
 
 -- ---- the calls
 
@@ -115,49 +115,49 @@ row name arguments make = (name, λ words. option_map make (arguments words))
 -- the calls on paths
 abbrev pub path_calls : List CallRow
 path_calls =
-    row (codes "mkdir") optional_mode_path (λ a. calls.Mkdir a.1 a.0)
-    ∷ row (codes "rmdir") (last path_of) calls.Rmdir
-    ∷ row (codes "open") (both flags_of (last path_of)) (λ a. calls.Open a.1 a.0.access a.0.create a.0.excl a.0.trunc a.0.append a.0.mode)
-    ∷ row (codes "truncate") (both integer_of (last path_of)) (λ a. calls.Truncate a.0 a.1)
-    ∷ row (codes "stat") (last path_of) calls.Stat
-    ∷ row (codes "link") (both path_of (last path_of)) (λ a. calls.Link a.0 a.1)
-    ∷ row (codes "unlink") (last path_of) calls.Unlink
-    ∷ row (codes "rename") (both path_of (last path_of)) (λ a. calls.Rename a.0 a.1)
-    ∷ row (codes "list") (last path_of) calls.List
+    row (codes "mkdir") parse_optional_mode_path (λ a. calls.Mkdir a.1 a.0)
+    ∷ row (codes "rmdir") (last parse_path) calls.Rmdir
+    ∷ row (codes "open") (both parse_flags (last parse_path)) (λ a. calls.Open a.1 a.0.access a.0.create a.0.excl a.0.trunc a.0.append a.0.mode)
+    ∷ row (codes "truncate") (both parse_i64 (last parse_path)) (λ a. calls.Truncate a.0 a.1)
+    ∷ row (codes "stat") (last parse_path) calls.Stat
+    ∷ row (codes "link") (both parse_path (last parse_path)) (λ a. calls.Link a.0 a.1)
+    ∷ row (codes "unlink") (last parse_path) calls.Unlink
+    ∷ row (codes "rename") (both parse_path (last parse_path)) (λ a. calls.Rename a.0 a.1)
+    ∷ row (codes "list") (last parse_path) calls.List
     ∷ []
 
 -- the calls on descriptors
 abbrev pub descriptor_calls : List CallRow
 descriptor_calls =
-    row (codes "close") (only number_of) calls.Close
-    ∷ row (codes "read") (both number_of (only number_of)) (λ a. calls.Read a.0 a.1)
-    ∷ row (codes "write") (both number_of (last data_of)) (λ a. calls.Write a.0 a.1)
-    ∷ row (codes "pread") (three number_of integer_of (only number_of)) (λ a. calls.Pread a.0 a.1 a.2)
-    ∷ row (codes "pwrite") (three number_of integer_of (last data_of)) (λ a. calls.Pwrite a.0 a.1 a.2)
-    ∷ row (codes "lseek") (three number_of whence_of (only integer_of)) (λ a. calls.Lseek a.0 a.1 a.2)
-    ∷ row (codes "ftruncate") (both number_of (only integer_of)) (λ a. calls.Ftruncate a.0 a.1)
-    ∷ row (codes "fstat") (only number_of) calls.Fstat
-    ∷ row (codes "fchmod") (both number_of (only mode_of)) (λ a. calls.Fchmod a.0 a.1)
-    ∷ row (codes "fchown") (three number_of owner_of (only owner_of)) (λ a. calls.Fchown a.0 a.1 a.2)
-    ∷ row (codes "futime") (three number_of integer_of (only short_number_of)) (λ a. calls.Futime a.0 (record { seconds = a.1; nanoseconds = a.2 }))
+    row (codes "close") (only parse_u64) calls.Close
+    ∷ row (codes "read") (both parse_u64 (only parse_u64)) (λ a. calls.Read a.0 a.1)
+    ∷ row (codes "write") (both parse_u64 (last parse_data)) (λ a. calls.Write a.0 a.1)
+    ∷ row (codes "pread") (three parse_u64 parse_i64 (only parse_u64)) (λ a. calls.Pread a.0 a.1 a.2)
+    ∷ row (codes "pwrite") (three parse_u64 parse_i64 (last parse_data)) (λ a. calls.Pwrite a.0 a.1 a.2)
+    ∷ row (codes "lseek") (three parse_u64 parse_whence (only parse_i64)) (λ a. calls.Lseek a.0 a.1 a.2)
+    ∷ row (codes "ftruncate") (both parse_u64 (only parse_i64)) (λ a. calls.Ftruncate a.0 a.1)
+    ∷ row (codes "fstat") (only parse_u64) calls.Fstat
+    ∷ row (codes "fchmod") (both parse_u64 (only parse_mode)) (λ a. calls.Fchmod a.0 a.1)
+    ∷ row (codes "fchown") (three parse_u64 parse_owner (only parse_owner)) (λ a. calls.Fchown a.0 a.1 a.2)
+    ∷ row (codes "futime") (three parse_u64 parse_i64 (only parse_u32)) (λ a. calls.Futime a.0 (record { seconds = a.1; nanoseconds = a.2 }))
     ∷ []
 
 -- the calls on symbolic links
 abbrev pub link_calls : List CallRow
 link_calls =
-    row (codes "symlink") (both path_of (last path_of)) (λ a. calls.Symlink a.0 a.1)
-    ∷ row (codes "readlink") (last path_of) calls.Readlink
-    ∷ row (codes "lstat") (last path_of) calls.Lstat
+    row (codes "symlink") (both parse_path (last parse_path)) (λ a. calls.Symlink a.0 a.1)
+    ∷ row (codes "readlink") (last parse_path) calls.Readlink
+    ∷ row (codes "lstat") (last parse_path) calls.Lstat
     ∷ []
 
 -- the calls on paths that set modes, owners and times
 abbrev pub attribute_calls : List CallRow
 attribute_calls =
-    row (codes "chmod") (both mode_of (last path_of)) (λ a. calls.Chmod a.0 a.1)
-    ∷ row (codes "chown") (three owner_of owner_of (last path_of)) (λ a. calls.Chown a.0 a.1 a.2)
-    ∷ row (codes "lchown") (three owner_of owner_of (last path_of)) (λ a. calls.Lchown a.0 a.1 a.2)
-    ∷ row (codes "utime") (three integer_of short_number_of (last path_of)) (λ a. calls.Utime (record { seconds = a.0; nanoseconds = a.1 }) a.2)
-    ∷ row (codes "lutime") (three integer_of short_number_of (last path_of)) (λ a. calls.Lutime (record { seconds = a.0; nanoseconds = a.1 }) a.2)
+    row (codes "chmod") (both parse_mode (last parse_path)) (λ a. calls.Chmod a.0 a.1)
+    ∷ row (codes "chown") (three parse_owner parse_owner (last parse_path)) (λ a. calls.Chown a.0 a.1 a.2)
+    ∷ row (codes "lchown") (three parse_owner parse_owner (last parse_path)) (λ a. calls.Lchown a.0 a.1 a.2)
+    ∷ row (codes "utime") (three parse_i64 parse_u32 (last parse_path)) (λ a. calls.Utime (record { seconds = a.0; nanoseconds = a.1 }) a.2)
+    ∷ row (codes "lutime") (three parse_i64 parse_u32 (last parse_path)) (λ a. calls.Lutime (record { seconds = a.0; nanoseconds = a.1 }) a.2)
     ∷ []
 
 -- the call of a name in a table, by the words of its arguments
@@ -165,13 +165,13 @@ abbrev pub read_by : List CallRow → List ℕ → List (List ℕ) → Option Ca
 read_by rows name words = option_and_then (λ arguments. arguments words) (look_up rows name)
 
 -- the call that a name and the words of its arguments spell
-abbrev pub call_of : List ℕ → List (List ℕ) → Option Call
-call_of name words = read_by (path_calls ++ descriptor_calls ++ link_calls ++ attribute_calls) name words
+abbrev pub parse_call : List ℕ → List (List ℕ) → Option Call
+parse_call name words = read_by (path_calls ++ descriptor_calls ++ link_calls ++ attribute_calls) name words
 
 -- ---- how words are read
 
 -- the value that words spell; or they spell none; or memory was wanting
-abbrev pub Reads : {A : Type 0} → Result A Unread → Option A → Type 0
+abbrev pub Reads : {A : Type 0} → Result A ParseError → Option A → Type 0
 Reads (Ok read) value = value ≡ Some read
 Reads (Err Misspelt) value = value ≡ None
 Reads (Err NoMemory) value = Unit {0}

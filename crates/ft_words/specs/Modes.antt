@@ -8,7 +8,7 @@ use Rattle.std.specs.Str.{bytes_eq}
 use Rattle.std.specs.Str.Parse.{digits_value}
 use Rattle.ft_cells.specs.declared.attributes.Attributes.{Attributes}
 use Rattle.ft_cells.specs.declared.attributes.Timestamp.{Timestamp}
-use Rattle.ft_words.specs.Spelling.{short_number_of}
+use Rattle.ft_words.specs.Spelling.{parse_u32}
 
 -- ---- as they are read
 
@@ -21,8 +21,8 @@ abbrev pub is_mode : List ℕ → Bool
 is_mode word = nat_lt 0 (length word) && nat_le (length word) 5 && list_all is_octal_digit word && nat_lt (digits_value 8 word) (8 ^ 4)
 
 -- its value, where the word is a mode
-abbrev pub mode_of : List ℕ → Option ℕ
-mode_of word = if is_mode word then Some (digits_value 8 word) else None
+abbrev pub parse_mode : List ℕ → Option ℕ
+parse_mode word = if is_mode word then Some (digits_value 8 word) else None
 
 -- the number of an owner or a group. (uid_t)-1 is none: POSIX has it stand for the one that is there
 -- (System Interfaces, chown)
@@ -30,8 +30,8 @@ abbrev pub not_all_ones : ℕ → Option ℕ
 not_all_ones number = if number == 2 ^ 32 - 1 then None else Some number
 
 -- An owner or a group is such a number, or `-` for the one that is there.
-abbrev pub owner_of : List ℕ → Option (Option ℕ)
-owner_of word = if bytes_eq word (codes "-") then Some None else option_map Some (option_and_then not_all_ones (short_number_of word))
+abbrev pub parse_owner : List ℕ → Option (Option ℕ)
+parse_owner word = if bytes_eq word (codes "-") then Some None else option_map Some (option_and_then not_all_ones (parse_u32 word))
 
 -- ---- as they are printed
 

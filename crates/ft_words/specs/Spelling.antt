@@ -49,16 +49,16 @@ abbrev pub is_number : List ℕ → Bool
 is_number word = nat_lt 0 (length word) && nat_le (length word) 20 && list_all is_ascii_digit word && nat_lt (digits_value 10 word) (2 ^ 64)
 
 -- its value, where the word is a number
-abbrev pub number_of : List ℕ → Option ℕ
-number_of word = if is_number word then Some (digits_value 10 word) else None
+abbrev pub parse_u64 : List ℕ → Option ℕ
+parse_u64 word = if is_number word then Some (digits_value 10 word) else None
 
 -- a number below 2^32, as it is
 abbrev pub short : ℕ → Option ℕ
 short number = if nat_lt number (2 ^ 32) then Some number else None
 
 -- A short number has at most 10 digits, and a value below 2^32.
-abbrev pub short_number_of : List ℕ → Option ℕ
-short_number_of word = if nat_le (length word) 10 then option_and_then short (number_of word) else None
+abbrev pub parse_u32 : List ℕ → Option ℕ
+parse_u32 word = if nat_le (length word) 10 then option_and_then short (parse_u64 word) else None
 
 -- a number below 2^63, as an integer
 abbrev pub not_negative : ℕ → Option ℤ
@@ -69,15 +69,15 @@ abbrev pub negative : ℕ → Option ℤ
 negative number = if nat_le number (2 ^ 63) then Some (neg_ℤ (pos number)) else None
 
 -- An integer is a number below 2^63, or `-` and a number up to 2^63.
-abbrev pub integer_of : List ℕ → Option ℤ
-integer_of [] = None
-integer_of (b ∷ bs) = if b == 45 then option_and_then negative (number_of bs) else option_and_then not_negative (number_of (b ∷ bs))
+abbrev pub parse_i64 : List ℕ → Option ℤ
+parse_i64 [] = None
+parse_i64 (b ∷ bs) = if b == 45 then option_and_then negative (parse_u64 bs) else option_and_then not_negative (parse_u64 (b ∷ bs))
 
 -- Paths and data are percent-coded: `%` and two hexadecimal digits stand for a byte, any other
 -- byte for itself. A path has no null byte.
-abbrev pub path_of : List ℕ → Option (List ℕ)
-path_of word = if has_nul (percent_decode word) then None else Some (percent_decode word)
+abbrev pub parse_path : List ℕ → Option (List ℕ)
+parse_path word = if has_nul (percent_decode word) then None else Some (percent_decode word)
 
 -- data may have any byte
-abbrev pub data_of : List ℕ → Option (List ℕ)
-data_of word = Some (percent_decode word)
+abbrev pub parse_data : List ℕ → Option (List ℕ)
+parse_data word = Some (percent_decode word)

@@ -15,9 +15,9 @@ use Rattle.ft_words.specs.declared.verbs.TimingVerb.TheVariants as timing_verbs
 use Rattle.ft_words.specs.declared.verbs.DescriptorVerb.{DescriptorVerb}
 use Rattle.ft_words.specs.declared.verbs.DescriptorVerb.TheVariants as descriptor_verbs
 use Rattle.ft_cells.specs.declared.attributes.Timestamp.{Timestamp}
-use Rattle.ft_words.specs.Spelling.{number_of, short_number_of, integer_of, path_of, data_of}
-use Rattle.ft_words.specs.Modes.{mode_of, owner_of}
-use Rattle.ft_words.specs.Calls.{only, last, both, three, optional_mode_path, flags_of, whence_of}
+use Rattle.ft_words.specs.Spelling.{parse_u64, parse_u32, parse_i64, parse_path, parse_data}
+use Rattle.ft_words.specs.Modes.{parse_mode, parse_owner}
+use Rattle.ft_words.specs.Calls.{only, last, both, three, parse_optional_mode_path, parse_flags, parse_whence}
 
 -- what a call is named after
 abbrev pub verb_of : Call → Verb
@@ -112,27 +112,27 @@ with_time timing_verbs.Lutime time path = calls.Lutime time path
 
 -- a call on a descriptor, by the words of its arguments
 abbrev pub descriptor_call : DescriptorVerb → List (List ℕ) → Option Call
-descriptor_call descriptor_verbs.Close words = option_map calls.Close (only number_of words)
-descriptor_call descriptor_verbs.Read words = option_map (λ a. calls.Read a.0 a.1) (both number_of (only number_of) words)
-descriptor_call descriptor_verbs.Write words = option_map (λ a. calls.Write a.0 a.1) (both number_of (last data_of) words)
-descriptor_call descriptor_verbs.Pread words = option_map (λ a. calls.Pread a.0 a.1 a.2) (three number_of integer_of (only number_of) words)
-descriptor_call descriptor_verbs.Pwrite words = option_map (λ a. calls.Pwrite a.0 a.1 a.2) (three number_of integer_of (last data_of) words)
-descriptor_call descriptor_verbs.Lseek words = option_map (λ a. calls.Lseek a.0 a.1 a.2) (three number_of whence_of (only integer_of) words)
-descriptor_call descriptor_verbs.Ftruncate words = option_map (λ a. calls.Ftruncate a.0 a.1) (both number_of (only integer_of) words)
-descriptor_call descriptor_verbs.Fstat words = option_map calls.Fstat (only number_of words)
-descriptor_call descriptor_verbs.Fchmod words = option_map (λ a. calls.Fchmod a.0 a.1) (both number_of (only mode_of) words)
-descriptor_call descriptor_verbs.Fchown words = option_map (λ a. calls.Fchown a.0 a.1 a.2) (three number_of owner_of (only owner_of) words)
-descriptor_call descriptor_verbs.Futime words = option_map (λ a. calls.Futime a.0 (record { seconds = a.1; nanoseconds = a.2 })) (three number_of integer_of (only short_number_of) words)
+descriptor_call descriptor_verbs.Close words = option_map calls.Close (only parse_u64 words)
+descriptor_call descriptor_verbs.Read words = option_map (λ a. calls.Read a.0 a.1) (both parse_u64 (only parse_u64) words)
+descriptor_call descriptor_verbs.Write words = option_map (λ a. calls.Write a.0 a.1) (both parse_u64 (last parse_data) words)
+descriptor_call descriptor_verbs.Pread words = option_map (λ a. calls.Pread a.0 a.1 a.2) (three parse_u64 parse_i64 (only parse_u64) words)
+descriptor_call descriptor_verbs.Pwrite words = option_map (λ a. calls.Pwrite a.0 a.1 a.2) (three parse_u64 parse_i64 (last parse_data) words)
+descriptor_call descriptor_verbs.Lseek words = option_map (λ a. calls.Lseek a.0 a.1 a.2) (three parse_u64 parse_whence (only parse_i64) words)
+descriptor_call descriptor_verbs.Ftruncate words = option_map (λ a. calls.Ftruncate a.0 a.1) (both parse_u64 (only parse_i64) words)
+descriptor_call descriptor_verbs.Fstat words = option_map calls.Fstat (only parse_u64 words)
+descriptor_call descriptor_verbs.Fchmod words = option_map (λ a. calls.Fchmod a.0 a.1) (both parse_u64 (only parse_mode) words)
+descriptor_call descriptor_verbs.Fchown words = option_map (λ a. calls.Fchown a.0 a.1 a.2) (three parse_u64 parse_owner (only parse_owner) words)
+descriptor_call descriptor_verbs.Futime words = option_map (λ a. calls.Futime a.0 (record { seconds = a.1; nanoseconds = a.2 })) (three parse_u64 parse_i64 (only parse_u32) words)
 
 -- the call of a verb, by the words of its arguments; over all verbs these are the tables of
 -- Calls.antt
 abbrev pub call_by : Verb → List (List ℕ) → Option Call
-call_by (OnPath verb) words = option_map (on_path verb) (last path_of words)
-call_by Mkdir words = option_map (λ a. calls.Mkdir a.1 a.0) (optional_mode_path words)
-call_by Open words = option_map (λ a. calls.Open a.1 a.0.access a.0.create a.0.excl a.0.trunc a.0.append a.0.mode) (both flags_of (last path_of) words)
-call_by Truncate words = option_map (λ a. calls.Truncate a.0 a.1) (both integer_of (last path_of) words)
-call_by (OnPaths verb) words = option_map (λ a. on_paths verb a.0 a.1) (both path_of (last path_of) words)
-call_by Chmod words = option_map (λ a. calls.Chmod a.0 a.1) (both mode_of (last path_of) words)
-call_by (Owning verb) words = option_map (λ a. with_owners verb a.0 a.1 a.2) (three owner_of owner_of (last path_of) words)
-call_by (Timing verb) words = option_map (λ a. with_time verb (record { seconds = a.0; nanoseconds = a.1 }) a.2) (three integer_of short_number_of (last path_of) words)
+call_by (OnPath verb) words = option_map (on_path verb) (last parse_path words)
+call_by Mkdir words = option_map (λ a. calls.Mkdir a.1 a.0) (parse_optional_mode_path words)
+call_by Open words = option_map (λ a. calls.Open a.1 a.0.access a.0.create a.0.excl a.0.trunc a.0.append a.0.mode) (both parse_flags (last parse_path) words)
+call_by Truncate words = option_map (λ a. calls.Truncate a.0 a.1) (both parse_i64 (last parse_path) words)
+call_by (OnPaths verb) words = option_map (λ a. on_paths verb a.0 a.1) (both parse_path (last parse_path) words)
+call_by Chmod words = option_map (λ a. calls.Chmod a.0 a.1) (both parse_mode (last parse_path) words)
+call_by (Owning verb) words = option_map (λ a. with_owners verb a.0 a.1 a.2) (three parse_owner parse_owner (last parse_path) words)
+call_by (Timing verb) words = option_map (λ a. with_time verb (record { seconds = a.0; nanoseconds = a.1 }) a.2) (three parse_i64 parse_u32 (last parse_path) words)
 call_by (OnDescriptor verb) words = descriptor_call verb words

@@ -1,92 +1,92 @@
 // The arguments of a call, by the words behind its name.
 ghost use Rattle.std.specs.Prelude.{◌≡◌};
-ghost use Rattle.ft_words.specs.Spelling.{number_of, short_number_of, integer_of, path_of, data_of};
-ghost use Rattle.ft_words.specs.Modes.{mode_of, owner_of};
-ghost use Rattle.ft_words.specs.Calls.{only, last, both, three, without_mode, with_mode, optional_mode_path, flags_of, whence_of, Reads};
+ghost use Rattle.ft_words.specs.Spelling.{parse_u64, parse_u32, parse_i64, parse_path, parse_data};
+ghost use Rattle.ft_words.specs.Modes.{parse_mode, parse_owner};
+ghost use Rattle.ft_words.specs.Calls.{only, last, both, three, without_mode, with_mode, parse_optional_mode_path, parse_flags, parse_whence, Reads};
 ghost use Rattle.ft_words.specs.Arguments.{first, others};
 
-use crate::coded::{data_of, path_of};
-use crate::flags::{flags_of, whence_of};
-use crate::modes::{mode_of, owner_of};
-use crate::numbers::{integer_of, number_of, short_number_of};
-use crate::unread::Unread;
+use crate::coded::{parse_data, parse_path};
+use crate::flags::{parse_flags, parse_whence};
+use crate::modes::{parse_mode, parse_owner};
+use crate::numbers::{parse_i64, parse_u32, parse_u64};
+use crate::parse_error::ParseError;
 use crate::words::Words;
 use ft_base::Sequence;
 use ft_path::FilePath;
 use ft_posix::{OpenFlags, Whence};
 use std::alloc::Global;
 
-// The next word, as a number.
+/// Takes the next word, and returns the number that it spells, if it spells one.
 fn next_number(words: &mut Words<'_>) -> Option<u64>
-    ensures first { result ≡ first number_of words.old }
+    ensures first { result ≡ first parse_u64 words.old }
     ensures others { words.new ≡ others words.old }
 {
-    words.next().and_then(number_of)
+    words.next().and_then(parse_u64)
 }
 
-// The next word, as an integer.
+/// Takes the next word, and returns the integer that it spells, if it spells one.
 fn next_integer(words: &mut Words<'_>) -> Option<i64>
-    ensures first { result ≡ first integer_of words.old }
+    ensures first { result ≡ first parse_i64 words.old }
     ensures others { words.new ≡ others words.old }
 {
-    words.next().and_then(integer_of)
+    words.next().and_then(parse_i64)
 }
 
-// The next word, as what an offset counts from.
+/// Takes the next word, and returns the point that it names, from which an offset counts.
 fn next_whence(words: &mut Words<'_>) -> Option<Whence>
-    ensures first { result ≡ first whence_of words.old }
+    ensures first { result ≡ first parse_whence words.old }
     ensures others { words.new ≡ others words.old }
 {
-    words.next().and_then(whence_of)
+    words.next().and_then(parse_whence)
 }
 
-// The next word, as an owner or a group.
+/// Takes the next word, and returns the owner or the group that it spells.
 fn next_owner(words: &mut Words<'_>) -> Option<Option<u32>>
-    ensures first { result ≡ first owner_of words.old }
+    ensures first { result ≡ first parse_owner words.old }
     ensures others { words.new ≡ others words.old }
 {
-    words.next().and_then(owner_of)
+    words.next().and_then(parse_owner)
 }
 
 /// `F`
 pub fn number(words: Words<'_>) -> Option<u64>
-    ensures { result ≡ only number_of words.entry }
+    ensures { result ≡ only parse_u64 words.entry }
 {
-    words.only().and_then(number_of)
+    words.sole().and_then(parse_u64)
 }
 
-// `I`
+/// Reads `I`.
 fn integer(words: Words<'_>) -> Option<i64>
-    ensures { result ≡ only integer_of words.entry }
+    ensures { result ≡ only parse_i64 words.entry }
 {
-    words.only().and_then(integer_of)
+    words.sole().and_then(parse_i64)
 }
 
-// `MODE`
+/// Reads `MODE`.
 fn mode(words: Words<'_>) -> Option<u16>
-    ensures { result ≡ only mode_of words.entry }
+    ensures { result ≡ only parse_mode words.entry }
 {
-    words.only().and_then(mode_of)
+    words.sole().and_then(parse_mode)
 }
 
-// `GROUP`
+/// Reads `GROUP`.
 fn owner(words: Words<'_>) -> Option<Option<u32>>
-    ensures { result ≡ only owner_of words.entry }
+    ensures { result ≡ only parse_owner words.entry }
 {
-    words.only().and_then(owner_of)
+    words.sole().and_then(parse_owner)
 }
 
-// `N`, below 2^32
+/// Reads `N`, which is below 2^32.
 fn short_number(words: Words<'_>) -> Option<u32>
-    ensures { result ≡ only short_number_of words.entry }
+    ensures { result ≡ only parse_u32 words.entry }
 {
-    words.only().and_then(short_number_of)
+    words.sole().and_then(parse_u32)
 }
 
 /// `F N`
 #[tactic(auto, using(crate::proofs::Reading::both_zip))]
-pub fn number_number(words: Words<'_>) -> Option<(u64, u64)>
-    ensures { result ≡ both number_of (only number_of) words.entry }
+pub fn parse_fd_len(words: Words<'_>) -> Option<(u64, u64)>
+    ensures { result ≡ both parse_u64 (only parse_u64) words.entry }
 {
     let mut words = words;
     next_number(&mut words).zip(number(words))
@@ -94,8 +94,8 @@ pub fn number_number(words: Words<'_>) -> Option<(u64, u64)>
 
 /// `F I`
 #[tactic(auto, using(crate::proofs::Reading::both_zip))]
-pub fn number_integer(words: Words<'_>) -> Option<(u64, i64)>
-    ensures { result ≡ both number_of (only integer_of) words.entry }
+pub fn parse_fd_size(words: Words<'_>) -> Option<(u64, i64)>
+    ensures { result ≡ both parse_u64 (only parse_i64) words.entry }
 {
     let mut words = words;
     next_number(&mut words).zip(integer(words))
@@ -103,8 +103,8 @@ pub fn number_integer(words: Words<'_>) -> Option<(u64, i64)>
 
 /// `F I N`
 #[tactic(auto, using(crate::proofs::Reading::three_zip))]
-pub fn number_integer_number(words: Words<'_>) -> Option<(u64, i64, u64)>
-    ensures { result ≡ three number_of integer_of (only number_of) words.entry }
+pub fn parse_fd_off_len(words: Words<'_>) -> Option<(u64, i64, u64)>
+    ensures { result ≡ three parse_u64 parse_i64 (only parse_u64) words.entry }
 {
     let mut words = words;
     let first = next_number(&mut words);
@@ -115,8 +115,8 @@ pub fn number_integer_number(words: Words<'_>) -> Option<(u64, i64, u64)>
 
 /// `F WHENCE I`
 #[tactic(auto, using(crate::proofs::Reading::three_zip))]
-pub fn number_whence_integer(words: Words<'_>) -> Option<(u64, Whence, i64)>
-    ensures { result ≡ three number_of whence_of (only integer_of) words.entry }
+pub fn parse_fd_whence_off(words: Words<'_>) -> Option<(u64, Whence, i64)>
+    ensures { result ≡ three parse_u64 parse_whence (only parse_i64) words.entry }
 {
     let mut words = words;
     let first = next_number(&mut words);
@@ -127,8 +127,8 @@ pub fn number_whence_integer(words: Words<'_>) -> Option<(u64, Whence, i64)>
 
 /// `F MODE`
 #[tactic(auto, using(crate::proofs::Reading::both_zip))]
-pub fn number_mode(words: Words<'_>) -> Option<(u64, u16)>
-    ensures { result ≡ both number_of (only mode_of) words.entry }
+pub fn parse_fd_mode(words: Words<'_>) -> Option<(u64, u16)>
+    ensures { result ≡ both parse_u64 (only parse_mode) words.entry }
 {
     let mut words = words;
     next_number(&mut words).zip(mode(words))
@@ -136,8 +136,8 @@ pub fn number_mode(words: Words<'_>) -> Option<(u64, u16)>
 
 /// `F OWNER GROUP`
 #[tactic(auto, using(crate::proofs::Reading::three_zip))]
-pub fn number_owner_group(words: Words<'_>) -> Option<(u64, Option<u32>, Option<u32>)>
-    ensures { result ≡ three number_of owner_of (only owner_of) words.entry }
+pub fn parse_fd_owner_group(words: Words<'_>) -> Option<(u64, Option<u32>, Option<u32>)>
+    ensures { result ≡ three parse_u64 parse_owner (only parse_owner) words.entry }
 {
     let mut words = words;
     let first = next_number(&mut words);
@@ -148,8 +148,8 @@ pub fn number_owner_group(words: Words<'_>) -> Option<(u64, Option<u32>, Option<
 
 /// `F S N`
 #[tactic(auto, using(crate::proofs::Reading::three_zip))]
-pub fn number_time(words: Words<'_>) -> Option<(u64, i64, u32)>
-    ensures { result ≡ three number_of integer_of (only short_number_of) words.entry }
+pub fn parse_fd_time(words: Words<'_>) -> Option<(u64, i64, u32)>
+    ensures { result ≡ three parse_u64 parse_i64 (only parse_u32) words.entry }
 {
     let mut words = words;
     let first = next_number(&mut words);
@@ -159,38 +159,38 @@ pub fn number_time(words: Words<'_>) -> Option<(u64, i64, u32)>
 }
 
 /// `P`
-pub fn path(alloc: Global, words: Words<'_>) -> Result<FilePath, Unread>
-    ensures { Reads result (last path_of words.entry) }
+pub fn path(alloc: Global, words: Words<'_>) -> Result<FilePath, ParseError>
+    ensures { Reads result (last parse_path words.entry) }
 {
-    let word = words.last().ok_or(Unread::Misspelt)?;
-    path_of(alloc, word)
+    let word = words.sole_or_empty().ok_or(ParseError::Misspelt)?;
+    parse_path(alloc, word)
 }
 
-// `D`
-fn data(alloc: Global, words: Words<'_>) -> Result<Sequence<u8>, Unread>
-    ensures { Reads result (last data_of words.entry) }
+/// Reads `D`.
+fn data(alloc: Global, words: Words<'_>) -> Result<Sequence<u8>, ParseError>
+    ensures { Reads result (last parse_data words.entry) }
 {
-    let word = words.last().ok_or(Unread::Misspelt)?;
-    data_of(alloc, word)
+    let word = words.sole_or_empty().ok_or(ParseError::Misspelt)?;
+    parse_data(alloc, word)
 }
 
 /// `P P`
-pub fn path_path(alloc: Global, words: Words<'_>) -> Result<(FilePath, FilePath), Unread>
-    ensures { Reads result (both path_of (last path_of) words.entry) }
+pub fn parse_two_paths(alloc: Global, words: Words<'_>) -> Result<(FilePath, FilePath), ParseError>
+    ensures { Reads result (both parse_path (last parse_path) words.entry) }
 {
     let mut words = words;
-    let word = words.next().ok_or(Unread::Misspelt)?;
-    let first = path_of(alloc, word)?;
+    let word = words.next().ok_or(ParseError::Misspelt)?;
+    let first = parse_path(alloc, word)?;
     let second = path(alloc, words)?;
     Ok((first, second))
 }
 
 /// `P` or `MODE P`: one word alone is a path.
-pub fn optional_mode_path(
+pub fn parse_optional_mode_path(
     alloc: Global,
     words: Words<'_>,
-) -> Result<(Option<u16>, FilePath), Unread>
-    ensures { Reads result (optional_mode_path words.entry) }
+) -> Result<(Option<u16>, FilePath), ParseError>
+    ensures { Reads result (parse_optional_mode_path words.entry) }
 {
     let mut words = words;
     let Some(first) = words.next() else {
@@ -200,106 +200,136 @@ pub fn optional_mode_path(
         return without_mode(alloc, first);
     };
     if words.next().is_some() {
-        return Err(Unread::Misspelt);
+        return Err(ParseError::Misspelt);
     }
     with_mode(alloc, first, second)
 }
 
-// A path alone.
-fn without_mode(alloc: Global, path: &[u8]) -> Result<(Option<u16>, FilePath), Unread>
+/// Returns the path of this word, with no mode.
+fn without_mode(alloc: Global, path: &[u8]) -> Result<(Option<u16>, FilePath), ParseError>
     ensures { Reads result (without_mode path.now) }
 {
-    let path = path_of(alloc, path)?;
+    let path = parse_path(alloc, path)?;
     Ok((None, path))
 }
 
-// A mode and a path, each by its word.
-fn with_mode(alloc: Global, mode: &[u8], path: &[u8]) -> Result<(Option<u16>, FilePath), Unread>
+/// Returns the mode and the path that these words spell.
+fn with_mode(alloc: Global, mode: &[u8], path: &[u8]) -> Result<(Option<u16>, FilePath), ParseError>
     ensures { Reads result (with_mode mode.now path.now) }
 {
-    let mode = mode_of(mode).ok_or(Unread::Misspelt)?;
-    let path = path_of(alloc, path)?;
+    let mode = parse_mode(mode).ok_or(ParseError::Misspelt)?;
+    let path = parse_path(alloc, path)?;
     Ok((Some(mode), path))
 }
 
 /// `MODE P`
-pub fn mode_path(alloc: Global, words: Words<'_>) -> Result<(u16, FilePath), Unread>
-    ensures { Reads result (both mode_of (last path_of) words.entry) }
+pub fn parse_mode_path(alloc: Global, words: Words<'_>) -> Result<(u16, FilePath), ParseError>
+    ensures { Reads result (both parse_mode (last parse_path) words.entry) }
 {
     let mut words = words;
-    let first = words.next().and_then(mode_of).ok_or(Unread::Misspelt)?;
+    let first = words
+        .next()
+        .and_then(parse_mode)
+        .ok_or(ParseError::Misspelt)?;
     let second = path(alloc, words)?;
     Ok((first, second))
 }
 
 /// `OWNER GROUP P`
-pub fn owner_group_path(
+pub fn parse_owner_group_path(
     alloc: Global,
     words: Words<'_>,
-) -> Result<(Option<u32>, Option<u32>, FilePath), Unread>
-    ensures { Reads result (three owner_of owner_of (last path_of) words.entry) }
+) -> Result<(Option<u32>, Option<u32>, FilePath), ParseError>
+    ensures { Reads result (three parse_owner parse_owner (last parse_path) words.entry) }
 {
     let mut words = words;
-    let first = words.next().and_then(owner_of).ok_or(Unread::Misspelt)?;
-    let second = words.next().and_then(owner_of).ok_or(Unread::Misspelt)?;
+    let first = words
+        .next()
+        .and_then(parse_owner)
+        .ok_or(ParseError::Misspelt)?;
+    let second = words
+        .next()
+        .and_then(parse_owner)
+        .ok_or(ParseError::Misspelt)?;
     let third = path(alloc, words)?;
     Ok((first, second, third))
 }
 
 /// `S N P`
-pub fn time_path(alloc: Global, words: Words<'_>) -> Result<(i64, u32, FilePath), Unread>
-    ensures { Reads result (three integer_of short_number_of (last path_of) words.entry) }
+pub fn parse_time_path(alloc: Global, words: Words<'_>) -> Result<(i64, u32, FilePath), ParseError>
+    ensures { Reads result (three parse_i64 parse_u32 (last parse_path) words.entry) }
 {
     let mut words = words;
-    let first = words.next().and_then(integer_of).ok_or(Unread::Misspelt)?;
+    let first = words
+        .next()
+        .and_then(parse_i64)
+        .ok_or(ParseError::Misspelt)?;
     let second = words
         .next()
-        .and_then(short_number_of)
-        .ok_or(Unread::Misspelt)?;
+        .and_then(parse_u32)
+        .ok_or(ParseError::Misspelt)?;
     let third = path(alloc, words)?;
     Ok((first, second, third))
 }
 
 /// `FLAGS P`
-pub fn flags_path(alloc: Global, words: Words<'_>) -> Result<(OpenFlags, FilePath), Unread>
-    ensures { Reads result (both flags_of (last path_of) words.entry) }
+pub fn parse_flags_path(
+    alloc: Global,
+    words: Words<'_>,
+) -> Result<(OpenFlags, FilePath), ParseError>
+    ensures { Reads result (both parse_flags (last parse_path) words.entry) }
 {
     let mut words = words;
-    let first = words.next().and_then(flags_of).ok_or(Unread::Misspelt)?;
+    let first = words
+        .next()
+        .and_then(parse_flags)
+        .ok_or(ParseError::Misspelt)?;
     let second = path(alloc, words)?;
     Ok((first, second))
 }
 
 /// `I P`
-pub fn integer_path(alloc: Global, words: Words<'_>) -> Result<(i64, FilePath), Unread>
-    ensures { Reads result (both integer_of (last path_of) words.entry) }
+pub fn parse_size_path(alloc: Global, words: Words<'_>) -> Result<(i64, FilePath), ParseError>
+    ensures { Reads result (both parse_i64 (last parse_path) words.entry) }
 {
     let mut words = words;
-    let first = words.next().and_then(integer_of).ok_or(Unread::Misspelt)?;
+    let first = words
+        .next()
+        .and_then(parse_i64)
+        .ok_or(ParseError::Misspelt)?;
     let second = path(alloc, words)?;
     Ok((first, second))
 }
 
 /// `F D`
-pub fn number_data(alloc: Global, words: Words<'_>) -> Result<(u64, Sequence<u8>), Unread>
-    ensures { Reads result (both number_of (last data_of) words.entry) }
+pub fn parse_fd_data(alloc: Global, words: Words<'_>) -> Result<(u64, Sequence<u8>), ParseError>
+    ensures { Reads result (both parse_u64 (last parse_data) words.entry) }
 {
     let mut words = words;
-    let first = words.next().and_then(number_of).ok_or(Unread::Misspelt)?;
+    let first = words
+        .next()
+        .and_then(parse_u64)
+        .ok_or(ParseError::Misspelt)?;
     let second = data(alloc, words)?;
     Ok((first, second))
 }
 
 /// `F I D`
-pub fn number_integer_data(
+pub fn parse_fd_off_data(
     alloc: Global,
     words: Words<'_>,
-) -> Result<(u64, i64, Sequence<u8>), Unread>
-    ensures { Reads result (three number_of integer_of (last data_of) words.entry) }
+) -> Result<(u64, i64, Sequence<u8>), ParseError>
+    ensures { Reads result (three parse_u64 parse_i64 (last parse_data) words.entry) }
 {
     let mut words = words;
-    let first = words.next().and_then(number_of).ok_or(Unread::Misspelt)?;
-    let second = words.next().and_then(integer_of).ok_or(Unread::Misspelt)?;
+    let first = words
+        .next()
+        .and_then(parse_u64)
+        .ok_or(ParseError::Misspelt)?;
+    let second = words
+        .next()
+        .and_then(parse_i64)
+        .ok_or(ParseError::Misspelt)?;
     let third = data(alloc, words)?;
     Ok((first, second, third))
 }

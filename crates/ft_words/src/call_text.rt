@@ -5,7 +5,7 @@ ghost use Rattle.ft_words.specs.Arguments.{argument_text};
 ghost use Rattle.ft_words.specs.Verbs.{word, verb_of};
 
 use crate::modes::{ModeText, OwnerText};
-use crate::text::{Coded, Data};
+use crate::text::{CodedArgument, PercentCoded};
 use crate::tree_text::{access_text, flag_text};
 use crate::verbs::Verb;
 use ft_posix::{Call, OpenFlags, Whence};
@@ -28,7 +28,7 @@ impl fmt::Display for CallText<'_> {
     }
 }
 
-// An argument, after a space.
+/// An argument, which is printed after a space.
 #[derive(Clone, Copy)]
 enum Argument<'a> {
     Absent,
@@ -55,15 +55,16 @@ impl fmt::Display for Argument<'_> {
             Argument::Flags(flags) => write!(f, " {}", FlagsText(*flags)),
             Argument::Mode(mode) => write!(f, " {}", ModeText(*mode)),
             Argument::Owner(owner) => write!(f, " {}", OwnerText(*owner)),
-            Argument::Path(path) => write!(f, " {}", Coded(path)),
-            Argument::Last(bytes) => Data(bytes).fmt(f),
+            Argument::Path(path) => write!(f, " {}", PercentCoded(path)),
+            Argument::Last(bytes) => CodedArgument(bytes).fmt(f),
         }
     }
 }
 
-// The arguments of a call, which has three at most.
+/// Returns the arguments of a call, which has at most three.
 fn arguments(call: &Call) -> (Argument<'_>, Argument<'_>, Argument<'_>)
-    ensures { word (verb_of call.now) ++ argument_text result.0 ++ argument_text result.1 ++ argument_text result.2 ≡ call_text call.now }
+    ensures { word (verb_of call.now) ++ argument_text result.0 ++ argument_text result.1
+        ++ argument_text result.2 ≡ call_text call.now }
 {
     use Argument::{Absent, Flags, Integer, Last, Mode, Number, Owner, Path};
     match call {
@@ -132,12 +133,14 @@ fn arguments(call: &Call) -> (Argument<'_>, Argument<'_>, Argument<'_>)
     }
 }
 
-// How a file is to be opened.
+/// The text of how a file is to be opened.
 #[derive(Clone, Copy)]
 struct FlagsText(OpenFlags);
 
 impl fmt::Display for FlagsText {
-    ghost output = { λ text. Some (flags_text text.0.access text.0.create text.0.excl text.0.trunc text.0.append text.0.mode) };
+    ghost output = { λ text. Some
+        (flags_text text.0.access text.0.create text.0.excl text.0.trunc text.0.append
+        text.0.mode) };
 
     fn fmt<W: fmt::Write>(&self, f: &mut fmt::Formatter<W>) -> fmt::Result {
         let access = access_text(self.0.access);
@@ -150,7 +153,7 @@ impl fmt::Display for FlagsText {
     }
 }
 
-// The mode of a file that is made, where one is given.
+/// The text of the mode of a file that is made, if a mode is given.
 #[derive(Clone, Copy)]
 struct GivenMode(Option<u16>);
 
@@ -165,7 +168,7 @@ impl fmt::Display for GivenMode {
     }
 }
 
-// From where an offset counts.
+/// Returns the word for the point from which an offset counts.
 fn whence_text(whence: Whence) -> &'static str
     ensures { result.now ≡ whence_text whence }
 {

@@ -1,14 +1,15 @@
 // The calls, by their names.
 ghost use Rattle.std.specs.Prelude.{◌≡◌};
-ghost use Rattle.ft_words.specs.Calls.{call_of, read_by, descriptor_calls, Reads};
+ghost use Rattle.ft_words.specs.Calls.{parse_call, read_by, descriptor_calls, Reads};
 ghost use Rattle.ft_words.specs.Verbs.{call_by, descriptor_call};
 
 use crate::arguments::{
-    flags_path, integer_path, mode_path, number, number_data, number_integer, number_integer_data,
-    number_integer_number, number_mode, number_number, number_owner_group, number_time,
-    number_whence_integer, optional_mode_path, owner_group_path, path, path_path, time_path,
+    number, parse_fd_data, parse_fd_len, parse_fd_mode, parse_fd_off_data, parse_fd_off_len,
+    parse_fd_owner_group, parse_fd_size, parse_fd_time, parse_fd_whence_off, parse_flags_path,
+    parse_mode_path, parse_optional_mode_path, parse_owner_group_path, parse_size_path,
+    parse_time_path, parse_two_paths, path,
 };
-use crate::unread::Unread;
+use crate::parse_error::ParseError;
 use crate::verbs::{DESCRIPTOR_VERBS, DescriptorVerb, VERBS, Verb, spelled};
 use crate::words::Words;
 use ft_path::FilePath;
@@ -18,28 +19,33 @@ use std::alloc::Global;
 
 /// The call of this name, with the arguments that the words behind it spell.
 #[tactic(auto, using(crate::proofs::Reading::call_of_verb))]
-pub fn call_of(alloc: Global, name: &[u8], words: Words<'_>) -> Result<Call, Unread>
-    ensures { Reads result (call_of name.now words.entry) }
+pub fn parse_call(alloc: Global, name: &[u8], words: Words<'_>) -> Result<Call, ParseError>
+    ensures { Reads result (parse_call name.now words.entry) }
 {
     match spelled(&VERBS, name) {
         Some(verb) => read_call(alloc, verb, words),
-        None => Err(Unread::Misspelt),
+        None => Err(ParseError::Misspelt),
     }
 }
 
-/// The same, where it is a call on a descriptor, which is the first of its arguments.
+/// Returns the call on a descriptor of this name, with the arguments that the words after the name
+/// spell. The descriptor is the first argument. Refuses any other name as misspelt.
 #[tactic(auto, using(crate::proofs::Reading::descriptor_call_of_verb))]
-pub fn descriptor_call_of(alloc: Global, name: &[u8], words: Words<'_>) -> Result<Call, Unread>
+pub fn parse_descriptor_call(
+    alloc: Global,
+    name: &[u8],
+    words: Words<'_>,
+) -> Result<Call, ParseError>
     ensures { Reads result (read_by descriptor_calls name.now words.entry) }
 {
     match spelled(&DESCRIPTOR_VERBS, name) {
         Some(verb) => read_call(alloc, verb, words),
-        None => Err(Unread::Misspelt),
+        None => Err(ParseError::Misspelt),
     }
 }
 
-// The call of a verb.
-fn read_call(alloc: Global, verb: Verb, words: Words<'_>) -> Result<Call, Unread>
+/// Returns the call of this verb, with the arguments that the words spell.
+fn read_call(alloc: Global, verb: Verb, words: Words<'_>) -> Result<Call, ParseError>
     ensures { Reads result (call_by verb words.entry) }
 {
     match verb {
@@ -48,31 +54,31 @@ fn read_call(alloc: Global, verb: Verb, words: Words<'_>) -> Result<Call, Unread
             Ok(verb.on(path))
         }
         Verb::Mkdir => {
-            let (mode, path) = optional_mode_path(alloc, words)?;
+            let (mode, path) = parse_optional_mode_path(alloc, words)?;
             Ok(Call::Mkdir { path, mode })
         }
         Verb::Open => {
-            let (flags, path) = flags_path(alloc, words)?;
+            let (flags, path) = parse_flags_path(alloc, words)?;
             Ok(open(flags, path))
         }
         Verb::Truncate => {
-            let (len, path) = integer_path(alloc, words)?;
+            let (len, path) = parse_size_path(alloc, words)?;
             Ok(Call::Truncate { len, path })
         }
         Verb::OnPaths(verb) => {
-            let (first, second) = path_path(alloc, words)?;
+            let (first, second) = parse_two_paths(alloc, words)?;
             Ok(verb.on(first, second))
         }
         Verb::Chmod => {
-            let (mode, path) = mode_path(alloc, words)?;
+            let (mode, path) = parse_mode_path(alloc, words)?;
             Ok(Call::Chmod { mode, path })
         }
         Verb::Owning(verb) => {
-            let (owner, group, path) = owner_group_path(alloc, words)?;
+            let (owner, group, path) = parse_owner_group_path(alloc, words)?;
             Ok(verb.with(owner, group, path))
         }
         Verb::Timing(verb) => {
-            let (seconds, nanoseconds, path) = time_path(alloc, words)?;
+            let (seconds, nanoseconds, path) = parse_time_path(alloc, words)?;
             Ok(verb.with(
                 Timestamp {
                     seconds,
@@ -85,57 +91,57 @@ fn read_call(alloc: Global, verb: Verb, words: Words<'_>) -> Result<Call, Unread
     }
 }
 
-// The same, of a call on a descriptor.
+/// Returns the call on a descriptor of this verb, with the arguments that the words spell.
 fn read_descriptor_call(
     alloc: Global,
     verb: DescriptorVerb,
     words: Words<'_>,
-) -> Result<Call, Unread>
+) -> Result<Call, ParseError>
     ensures { Reads result (descriptor_call verb words.entry) }
 {
     match verb {
         DescriptorVerb::Write => {
-            let (fd, bytes) = number_data(alloc, words)?;
+            let (fd, bytes) = parse_fd_data(alloc, words)?;
             Ok(Call::Write { fd, bytes })
         }
         DescriptorVerb::Pwrite => {
-            let (fd, off, bytes) = number_integer_data(alloc, words)?;
+            let (fd, off, bytes) = parse_fd_off_data(alloc, words)?;
             Ok(Call::Pwrite { fd, off, bytes })
         }
         DescriptorVerb::Close => {
-            let fd = number(words).ok_or(Unread::Misspelt)?;
+            let fd = number(words).ok_or(ParseError::Misspelt)?;
             Ok(Call::Close { fd })
         }
         DescriptorVerb::Read => {
-            let (fd, len) = number_number(words).ok_or(Unread::Misspelt)?;
+            let (fd, len) = parse_fd_len(words).ok_or(ParseError::Misspelt)?;
             Ok(Call::Read { fd, len })
         }
         DescriptorVerb::Pread => {
-            let (fd, off, len) = number_integer_number(words).ok_or(Unread::Misspelt)?;
+            let (fd, off, len) = parse_fd_off_len(words).ok_or(ParseError::Misspelt)?;
             Ok(Call::Pread { fd, off, len })
         }
         DescriptorVerb::Lseek => {
-            let (fd, whence, off) = number_whence_integer(words).ok_or(Unread::Misspelt)?;
+            let (fd, whence, off) = parse_fd_whence_off(words).ok_or(ParseError::Misspelt)?;
             Ok(Call::Lseek { fd, whence, off })
         }
         DescriptorVerb::Ftruncate => {
-            let (fd, len) = number_integer(words).ok_or(Unread::Misspelt)?;
+            let (fd, len) = parse_fd_size(words).ok_or(ParseError::Misspelt)?;
             Ok(Call::Ftruncate { fd, len })
         }
         DescriptorVerb::Fstat => {
-            let fd = number(words).ok_or(Unread::Misspelt)?;
+            let fd = number(words).ok_or(ParseError::Misspelt)?;
             Ok(Call::Fstat { fd })
         }
         DescriptorVerb::Fchmod => {
-            let (fd, mode) = number_mode(words).ok_or(Unread::Misspelt)?;
+            let (fd, mode) = parse_fd_mode(words).ok_or(ParseError::Misspelt)?;
             Ok(Call::Fchmod { fd, mode })
         }
         DescriptorVerb::Fchown => {
-            let (fd, owner, group) = number_owner_group(words).ok_or(Unread::Misspelt)?;
+            let (fd, owner, group) = parse_fd_owner_group(words).ok_or(ParseError::Misspelt)?;
             Ok(Call::Fchown { fd, owner, group })
         }
         DescriptorVerb::Futime => {
-            let (fd, seconds, nanoseconds) = number_time(words).ok_or(Unread::Misspelt)?;
+            let (fd, seconds, nanoseconds) = parse_fd_time(words).ok_or(ParseError::Misspelt)?;
             let time = Timestamp {
                 seconds,
                 nanoseconds,
@@ -145,9 +151,10 @@ fn read_descriptor_call(
     }
 }
 
-// A call that opens a file.
+/// Returns the call that opens the file at a path with these flags.
 fn open(flags: OpenFlags, path: FilePath) -> Call
-    ensures { result ≡ Call.Open path flags.access flags.create flags.excl flags.trunc flags.append flags.mode }
+    ensures { result ≡ Call.Open path flags.access flags.create flags.excl flags.trunc flags.append
+        flags.mode }
 {
     Call::Open {
         path,

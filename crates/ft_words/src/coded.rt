@@ -3,10 +3,10 @@ ghost use Rattle.std.specs.Prelude.{◌≡◌, ◌+◌, ◌<◌, ◌≤◌, ◌�
 ghost use Rattle.percent_encoding.specs.Percent.{percent_decode, SplitsEscape};
 ghost use Rattle.ft_path.specs.Name.{has_nul};
 ghost use Rattle.ft_words.specs.Calls.{Reads};
-ghost use Rattle.ft_words.specs.Spelling.{IsFreeOf, path_of, data_of};
+ghost use Rattle.ft_words.specs.Spelling.{IsFreeOf, parse_path, parse_data};
 
 use crate::lanes::put_plain;
-use crate::unread::Unread;
+use crate::parse_error::ParseError;
 use bstr::ByteSlice;
 use ft_base::Sequence;
 use ft_path::{FilePath, PathFault};
@@ -14,8 +14,8 @@ use percent_encoding::percent_decode;
 use std::alloc::Global;
 
 /// The path that a word codes. A path with a NUL byte is none.
-pub fn path_of(alloc: Global, word: &[u8]) -> Result<FilePath, Unread>
-    ensures { Reads result (path_of word.now) }
+pub fn parse_path(alloc: Global, word: &[u8]) -> Result<FilePath, ParseError>
+    ensures { Reads result (parse_path word.now) }
 {
     if front_len(word) == word.len() {
         return path(alloc, word);
@@ -24,20 +24,20 @@ pub fn path_of(alloc: Global, word: &[u8]) -> Result<FilePath, Unread>
     path(alloc, bytes.as_slice())
 }
 
-// The path of these bytes.
-fn path(alloc: Global, bytes: &[u8]) -> Result<FilePath, Unread>
+/// Returns the path of these bytes. Refuses bytes with a null byte among them.
+fn path(alloc: Global, bytes: &[u8]) -> Result<FilePath, ParseError>
     ensures { Reads result (if has_nul bytes.now then None else Some bytes.now) }
 {
     match FilePath::new(alloc, bytes) {
         Ok(path) => Ok(path),
-        Err(PathFault::NulByte) => Err(Unread::Misspelt),
-        Err(PathFault::Memory) => Err(Unread::NoMemory),
+        Err(PathFault::NulByte) => Err(ParseError::Misspelt),
+        Err(PathFault::Memory) => Err(ParseError::NoMemory),
     }
 }
 
-/// The bytes that a word codes.
-pub fn data_of(alloc: Global, word: &[u8]) -> Result<Sequence<u8>, Unread>
-    ensures { Reads result (data_of word.now) }
+/// Returns the bytes that a word codes.
+pub fn parse_data(alloc: Global, word: &[u8]) -> Result<Sequence<u8>, ParseError>
+    ensures { Reads result (parse_data word.now) }
 {
     let mut bytes = vec![in alloc; 0; word.len()]?;
     let end = put_decoded(word, bytes.as_mut_slice());
@@ -45,7 +45,7 @@ pub fn data_of(alloc: Global, word: &[u8]) -> Result<Sequence<u8>, Unread>
     Ok(bytes.into())
 }
 
-// Puts the bytes that a word codes at the front of a place, and tells how many they are.
+/// Puts the bytes that a word codes at the front of a place, and returns how many there are.
 fn put_decoded(word: &[u8], place: &mut [u8]) -> usize
     requires { length word.now ≤ length place.old }
     ensures len { length place.new ≡ length place.old }
@@ -61,12 +61,13 @@ fn put_decoded(word: &[u8], place: &mut [u8]) -> usize
     end
 }
 
-// Puts what the front of a word codes: up to sixteen bytes that stand before a `%`, and what is
-// coded next. Tells how many bytes that makes, and what is left of the word.
+/// Puts what the front of a word codes: up to sixteen bytes that come before a `%`, and what is
+/// coded next. Returns how many bytes that makes, and the rest of the word.
 fn put_next<'a>(word: &'a [u8], place: &mut [u8]) -> (usize, &'a [u8])
     requires some { 0 < length word.now }
     requires room { length word.now ≤ length place.old }
-    ensures bytes { take result.0 place.new ++ percent_decode result.1.now ≡ percent_decode word.now }
+    ensures bytes { take result.0 place.new ++ percent_decode result.1.now
+        ≡ percent_decode word.now }
     ensures fewer { length result.1.now < length word.now }
     ensures room { result.0 + length result.1.now ≤ length word.now }
     ensures len { length place.new ≡ length place.old }
@@ -81,7 +82,7 @@ fn put_next<'a>(word: &'a [u8], place: &mut [u8]) -> (usize, &'a [u8])
     }
 }
 
-// How many bytes of a word stand before the first `%`.
+/// Returns how many bytes of a word come before the first `%`.
 fn front_len(word: &[u8]) -> usize
     ensures within { result ≤ length word.now }
     ensures free { IsFreeOf 37 (take result word.now) }
@@ -92,11 +93,13 @@ fn front_len(word: &[u8]) -> usize
     }
 }
 
-// The first byte that a word codes, and the word behind what codes it.
+/// Returns the first byte that a word codes, and the word after what codes it. Returns `None` if
+/// the word is empty.
 fn split_coded(word: &[u8]) -> Option<(u8, &[u8])>
     ensures coded { MatchOption result (word.now ≡ [])
         (λ parts. percent_decode word.now ≡ parts.0 ∷ percent_decode parts.1.now) }
-    ensures shorter { MatchOption result (word.now ≡ []) (λ parts. length parts.1.now < length word.now) }
+    ensures shorter { MatchOption result (word.now
+        ≡ []) (λ parts. length parts.1.now < length word.now) }
 {
     if let Some(parts) = split_escape(word) {
         return Some(parts);
@@ -105,10 +108,12 @@ fn split_coded(word: &[u8]) -> Option<(u8, &[u8])>
     Some((*first, behind))
 }
 
-// The same, where the word begins with `%` and two hexadecimal digits.
+/// Returns the byte that `%` and two hexadecimal digits code at the front of a word, and the rest
+/// of the word. Returns `None` if the word does not begin with them.
 fn split_escape(word: &[u8]) -> Option<(u8, &[u8])>
     ensures coded { SplitsEscape word.now result }
-    ensures shorter { MatchOption result (Unit {0}) (λ parts. length parts.1.now < length word.now) }
+    ensures shorter { MatchOption result
+        (Unit {0}) (λ parts. length parts.1.now < length word.now) }
 {
     let [b'%', high, low, behind @ ..] = word else {
         return None;

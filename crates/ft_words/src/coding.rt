@@ -8,7 +8,7 @@ use percent_encoding::percent_encode_byte;
 /// The most bytes that are put at once.
 pub(crate) const CODED_PIECE: usize = 256;
 
-// The most bytes that a step makes.
+/// The most bytes that a step makes.
 const MOST_MADE: usize = LANES + 3;
 
 /// Puts the first of some bytes, percent-coded, at the front of a place: all of them, or as many as
@@ -28,8 +28,8 @@ pub(crate) fn put_coded<'a>(bytes: &'a [u8], place: &mut [u8; CODED_PIECE]) -> (
     (end, rest)
 }
 
-// Puts the first of some bytes: up to sixteen that are printed as they are, and the next one. Tells
-// how many bytes that makes, and what is left.
+/// Puts the first of some bytes: up to sixteen that are printed as they are, and the next one.
+/// Returns how many bytes that makes, and the bytes that are left.
 fn put_next<'a>(bytes: &'a [u8], place: &mut [u8]) -> (usize, &'a [u8])
     requires some { 0 < length bytes.now }
     requires room { MOST_MADE ≤ length place.old }
@@ -48,7 +48,7 @@ fn put_next<'a>(bytes: &'a [u8], place: &mut [u8]) -> (usize, &'a [u8])
     }
 }
 
-// Puts one byte, percent-coded, at the front of a place, and tells how many bytes that makes.
+/// Puts one byte, percent-coded, at the front of a place, and returns how many bytes that makes.
 fn put_byte(byte: u8, place: &mut [u8]) -> usize
     requires { 3 ≤ length place.old }
     ensures within { result ≤ 3 }
@@ -63,7 +63,7 @@ fn put_byte(byte: u8, place: &mut [u8]) -> usize
     3
 }
 
-// Whether a byte is printed as `%` and two digits.
+/// Returns whether a byte is printed as `%` and two digits.
 fn is_coded(byte: u8) -> bool
     ensures { result ≡ is_coded byte }
 {

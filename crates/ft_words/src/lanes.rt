@@ -10,8 +10,8 @@ use std::simd::prelude::*;
 /// So many bytes are looked at at once.
 pub(crate) const LANES: usize = 16;
 
-/// Puts those of the first sixteen bytes that stand before one that is printed as `%` and two
-/// digits at the front of a place, which has room for sixteen. Tells how many they are; none of
+/// Puts those of the first sixteen bytes that come before one that is printed as `%` and two digits
+/// at the front of a place, which has room for sixteen. Returns how many there are: 0 if there are
 /// fewer than sixteen bytes.
 pub(crate) fn put_printed(bytes: &[u8], place: &mut [u8]) -> usize
     requires { LANES ≤ length place.old }
@@ -29,7 +29,8 @@ pub(crate) fn put_printed(bytes: &[u8], place: &mut [u8]) -> usize
     first_bit(coded_bits(lanes))
 }
 
-/// The same of those that stand before a `%`.
+/// Puts those of the first sixteen bytes that come before a `%` at the front of a place, which has
+/// room for all bytes. Returns how many there are: 0 if there are fewer than sixteen bytes.
 pub(crate) fn put_plain(bytes: &[u8], place: &mut [u8]) -> usize
     requires { length bytes.now ≤ length place.old }
     ensures within { result ≤ length bytes.now }
@@ -45,35 +46,38 @@ pub(crate) fn put_plain(bytes: &[u8], place: &mut [u8]) -> usize
     first_bit(percent_bits(lanes))
 }
 
-// The places of the bytes that are printed as `%` and two digits.
+/// Returns a bit for each place of a byte that is printed as `%` and two digits.
 fn coded_bits(lanes: u8x16) -> u64
-    ensures { (k : ℕ) → k < LANES → is_coded (slice_index_or lanes k 0) ≡ true → bit_at result k ≡ 1 }
+    ensures { (k : ℕ) → k < LANES → is_coded (slice_index_or lanes k 0) ≡ true
+        → bit_at result k ≡ 1 }
 {
     low_bits(lanes) | percent_bits(lanes) | high_bits(lanes)
 }
 
-// The places of the bytes up to that of a space.
+/// Returns a bit for each place of a byte up to a space.
 fn low_bits(lanes: u8x16) -> u64
-    ensures { (k : ℕ) → k < LANES → nat_le (slice_index_or lanes k 0) 32 ≡ true → bit_at result k ≡ 1 }
+    ensures { (k : ℕ) → k < LANES → nat_le (slice_index_or lanes k 0) 32 ≡ true
+        → bit_at result k ≡ 1 }
 {
     lanes.simd_le(u8x16::splat(b' ')).to_bitmask()
 }
 
-// The places of the bytes from 127 on.
+/// Returns a bit for each place of a byte from 127 on.
 fn high_bits(lanes: u8x16) -> u64
-    ensures { (k : ℕ) → k < LANES → nat_le 127 (slice_index_or lanes k 0) ≡ true → bit_at result k ≡ 1 }
+    ensures { (k : ℕ) → k < LANES → nat_le 127 (slice_index_or lanes k 0) ≡ true
+        → bit_at result k ≡ 1 }
 {
     lanes.simd_ge(u8x16::splat(127)).to_bitmask()
 }
 
-// The places of `%`.
+/// Returns a bit for each place of a `%`.
 fn percent_bits(lanes: u8x16) -> u64
     ensures { (k : ℕ) → k < LANES → (slice_index_or lanes k 0 == 37) ≡ true → bit_at result k ≡ 1 }
 {
     lanes.simd_eq(u8x16::splat(b'%')).to_bitmask()
 }
 
-// The lowest of the first sixteen bits that is set, or sixteen.
+/// Returns the place of the lowest of the first sixteen bits that is set, or sixteen.
 fn first_bit(bits: u64) -> usize
     ensures within { result ≤ LANES }
     ensures below { (k : ℕ) → k < result → bit_at bits k ≡ 0 }

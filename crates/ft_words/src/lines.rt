@@ -26,7 +26,7 @@ impl<'a> Lines<'a> {
         Lines { rest: text }
     }
 
-    /// The same lines, for another reader.
+    /// Returns the lines that are left, for another reader.
     pub fn copy(&self) -> Lines<'a>
         ensures { result ≡ self.now }
     {

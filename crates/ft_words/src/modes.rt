@@ -1,15 +1,15 @@
 // Modes, and their owners.
 ghost use Rattle.std.specs.Prelude.{◌≡◌, ◌+◌, ◌*◌, ◌^◌, ◌≤◌, ◌&&◌, nat_lt, if◌then◌else◌, Some, None};
 ghost use Rattle.std.specs.Char.{digit_value};
-ghost use Rattle.ft_words.specs.Modes.{is_octal_digit, mode_of, owner_of, mode_text, owner_text, attributes_text, time_text};
+ghost use Rattle.ft_words.specs.Modes.{is_octal_digit, parse_mode, parse_owner, mode_text, owner_text, attributes_text, time_text};
 
-use crate::numbers::short_number_of;
+use crate::numbers::parse_u32;
 use ft_tree::{Attributes, MOST_MODE, Timestamp};
 use std::fmt;
 
 /// The mode that a word of 1 to 5 octal digits stands for, where it is at most 07777.
-pub fn mode_of(word: &[u8]) -> Option<u16>
-    ensures { result ≡ mode_of word.now }
+pub fn parse_mode(word: &[u8]) -> Option<u16>
+    ensures { result ≡ parse_mode word.now }
 {
     if word.is_empty() || word.len() > 5 {
         return None;
@@ -21,8 +21,8 @@ pub fn mode_of(word: &[u8]) -> Option<u16>
     Some(mode)
 }
 
-// The mode with this digit behind its own, where the byte is an octal digit and the mode then at
-// most 07777.
+/// Returns the mode with this digit after its own digits. Returns `None` if the byte is no octal
+/// digit, or if the mode would be above 07777.
 fn with_octal_digit(mode: u16, byte: u8) -> Option<u16>
     requires { mode ≤ MOST_MODE }
     ensures { result ≡ (if is_octal_digit byte && nat_lt (mode * 8 + digit_value byte) (8 ^ 4)
@@ -38,13 +38,13 @@ fn with_octal_digit(mode: u16, byte: u8) -> Option<u16>
 /// The owner or the group that a word names: a number below 2^32 of at most 10 digits. `-` names
 /// none, so that the one that is there stays. 4294967295 is none either and no such word, since
 /// POSIX.1-2017 (System Interfaces, chown) has it stand for the one that is there.
-pub fn owner_of(word: &[u8]) -> Option<Option<u32>>
-    ensures { result ≡ owner_of word.now }
+pub fn parse_owner(word: &[u8]) -> Option<Option<u32>>
+    ensures { result ≡ parse_owner word.now }
 {
     if word == b"-".as_slice() {
         return Some(None);
     }
-    match short_number_of(word)? {
+    match parse_u32(word)? {
         u32::MAX => None,
         owner => Some(Some(owner)),
     }

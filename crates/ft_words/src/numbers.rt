@@ -1,11 +1,11 @@
 // Numbers.
 ghost use Rattle.std.specs.Prelude.{◌≡◌, ◌+◌, ◌*◌, ◌^◌, ◌&&◌, nat_lt, if◌then◌else◌, Some, None};
 ghost use Rattle.std.specs.Char.{is_ascii_digit, digit_value};
-ghost use Rattle.ft_words.specs.Spelling.{number_of, short_number_of, integer_of, not_negative, negative};
+ghost use Rattle.ft_words.specs.Spelling.{parse_u64, parse_u32, parse_i64, not_negative, negative};
 
 /// The number that a word of 1 to 20 digits stands for, where it is below 2^64.
-pub fn number_of(word: &[u8]) -> Option<u64>
-    ensures { result ≡ number_of word.now }
+pub fn parse_u64(word: &[u8]) -> Option<u64>
+    ensures { result ≡ parse_u64 word.now }
 {
     if word.is_empty() || word.len() > 20 {
         return None;
@@ -17,8 +17,8 @@ pub fn number_of(word: &[u8]) -> Option<u64>
     Some(number)
 }
 
-// The number with this digit behind its own, where the byte is a digit and the number then below
-// 2^64.
+/// Returns the number with this digit after its own digits. Returns `None` if the byte is no digit,
+/// or if the number would not be below 2^64.
 fn with_digit(number: u64, byte: u8) -> Option<u64>
     ensures { result ≡ (if is_ascii_digit byte && nat_lt (number * 10 + digit_value byte) (2 ^ 64)
         then Some (number * 10 + digit_value byte) else None) }
@@ -29,34 +29,34 @@ fn with_digit(number: u64, byte: u8) -> Option<u64>
     number.checked_mul(10)?.checked_add(u64::from(byte - b'0'))
 }
 
-/// The same of at most 10 digits, where it is below 2^32.
-pub fn short_number_of(word: &[u8]) -> Option<u32>
-    ensures { result ≡ short_number_of word.now }
+/// Returns the number that a word of at most 10 digits spells, if it is below 2^32.
+pub fn parse_u32(word: &[u8]) -> Option<u32>
+    ensures { result ≡ parse_u32 word.now }
 {
     if word.len() > 10 {
         return None;
     }
-    u32::try_from(number_of(word)?).ok()
+    u32::try_from(parse_u64(word)?).ok()
 }
 
 /// The integer that such a word stands for, with `-` before it where it is negative.
-pub fn integer_of(word: &[u8]) -> Option<i64>
-    ensures { result ≡ integer_of word.now }
+pub fn parse_i64(word: &[u8]) -> Option<i64>
+    ensures { result ≡ parse_i64 word.now }
 {
     match word {
-        [b'-', digits @ ..] => negative(number_of(digits)?),
-        _ => not_negative(number_of(word)?),
+        [b'-', digits @ ..] => negative(parse_u64(digits)?),
+        _ => not_negative(parse_u64(word)?),
     }
 }
 
-// The integer of this size.
+/// Returns this number as an integer, if it is in range.
 fn not_negative(number: u64) -> Option<i64>
     ensures { result ≡ not_negative number }
 {
     0_i64.checked_add_unsigned(number)
 }
 
-// The negative integer of this size.
+/// Returns the negative of this number as an integer, if it is in range.
 fn negative(number: u64) -> Option<i64>
     ensures { result ≡ negative number }
 {

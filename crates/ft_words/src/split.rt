@@ -16,7 +16,8 @@ pub fn split_once(byte: u8, text: &[u8]) -> Option<(&[u8], &[u8])>
     }
 }
 
-/// The same, of a byte that is likely to be near.
+/// Returns what comes before the first place of a byte, and what comes after it, if the byte is
+/// there. This is for a byte that is likely to be near.
 pub(crate) fn split_near(byte: u8, text: &[u8]) -> Option<(&[u8], &[u8])>
     ensures { MatchOption result (IsFreeOf byte text.now)
         (λ parts. IsFreeOf byte parts.0.now × (text.now ≡ parts.0.now ++ byte ∷ parts.1.now)) }

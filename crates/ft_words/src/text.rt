@@ -22,7 +22,12 @@ impl fmt::Display for ReplyText<'_> {
             Reply::Done => f.write_str("ok"),
             Reply::Names(names) => write!(f, "ok {}{}", names.len(), Listing(names.as_slice())),
             Reply::Number(number) => write!(f, "ok {number}"),
-            Reply::Bytes(bytes) => write!(f, "ok {}{}", bytes.len(), Data(bytes.as_slice())),
+            Reply::Bytes(bytes) => write!(
+                f,
+                "ok {}{}",
+                bytes.len(),
+                CodedArgument(bytes.as_slice())
+            ),
             Reply::Info {
                 kind,
                 number,
@@ -42,7 +47,7 @@ impl fmt::Display for ReplyText<'_> {
     }
 }
 
-// A directory, a file or a symbolic link.
+/// Returns the word for a directory, a file or a symbolic link.
 fn kind_text(kind: Kind) -> &'static str
     ensures { result.now ≡ kind_text kind }
 {
@@ -53,7 +58,7 @@ fn kind_text(kind: Kind) -> &'static str
     }
 }
 
-// Attributes after a space and their name, where they are not those that one has anyway.
+/// Attributes after a space and their name, if they are not the default ones.
 #[derive(Clone, Copy)]
 struct AttributesTail(Option<Attributes>);
 
@@ -68,7 +73,7 @@ impl fmt::Display for AttributesTail {
     }
 }
 
-// The time of bytes after a space and its name, where there is one.
+/// The time of bytes after a space and its name, if there is one.
 #[derive(Clone, Copy)]
 struct TimeTail(Option<Timestamp>);
 
@@ -85,9 +90,9 @@ impl fmt::Display for TimeTail {
 
 /// Bytes, percent-coded.
 #[derive(Clone, Copy)]
-pub struct Coded<'a>(pub &'a [u8]);
+pub struct PercentCoded<'a>(pub &'a [u8]);
 
-impl fmt::Display for Coded<'_> {
+impl fmt::Display for PercentCoded<'_> {
     ghost output = { λ bytes. Some (coded bytes.0.now) };
 
     fn fmt<W: fmt::Write>(&self, f: &mut fmt::Formatter<W>) -> fmt::Result {
@@ -104,20 +109,20 @@ impl fmt::Display for Coded<'_> {
 
 /// Bytes, percent-coded, after a space where there are any.
 #[derive(Clone, Copy)]
-pub struct Data<'a>(pub &'a [u8]);
+pub struct CodedArgument<'a>(pub &'a [u8]);
 
-impl fmt::Display for Data<'_> {
+impl fmt::Display for CodedArgument<'_> {
     ghost output = { λ bytes. Some (data_text bytes.0.now) };
 
     fn fmt<W: fmt::Write>(&self, f: &mut fmt::Formatter<W>) -> fmt::Result {
         if self.0.is_empty() {
             return Ok(());
         }
-        write!(f, " {}", Coded(self.0))
+        write!(f, " {}", PercentCoded(self.0))
     }
 }
 
-// The names of a directory.
+/// The names of a directory.
 #[derive(Clone, Copy)]
 struct Listing<'a>(&'a [(Name, Kind)]);
 
@@ -132,7 +137,7 @@ impl fmt::Display for Listing<'_> {
     }
 }
 
-// One name of a directory, after a space.
+/// One name of a directory, after a space.
 #[derive(Clone, Copy)]
 struct Listed<'a>(&'a Name, Kind);
 
@@ -140,7 +145,7 @@ impl fmt::Display for Listed<'_> {
     ghost output = { λ entry. Some (listed entry.0.now entry.1) };
 
     fn fmt<W: fmt::Write>(&self, f: &mut fmt::Formatter<W>) -> fmt::Result {
-        let name = Coded(self.0.as_bytes());
+        let name = PercentCoded(self.0.as_bytes());
         match self.1 {
             Kind::Dir => write!(f, " {name}/"),
             Kind::File => write!(f, " {name}"),

@@ -4,7 +4,7 @@ ghost use Rattle.std.specs.FinMap as finite;
 ghost use Rattle.ft_words.specs.Texts.{tree_text, rows_text, row_text, lines_text, is_link, link_in, access_text, flag_text};
 
 use crate::modes::{AttributesText, TimeText};
-use crate::text::{Coded, Data};
+use crate::text::{CodedArgument, PercentCoded};
 use ft_base::{Memory, Table};
 use ft_tree::{AccessMode, Entry, Form, Node, TreeRow};
 use std::alloc::Global;
@@ -47,9 +47,10 @@ impl fmt::Display for TreeText<'_> {
     }
 }
 
-// The numbers of the symbolic links to which edges lead.
+/// Returns the numbers of the symbolic links to which edges lead.
 fn links_of(alloc: Global, rows: &[TreeRow]) -> Result<Table<()>, Memory>
-    ensures { IfOk result (λ links. (number : ℕ) → finite.contains_key links number ≡ is_link rows.now number) }
+    ensures { IfOk result (λ links. (number : ℕ)
+        → finite.contains_key links number ≡ is_link rows.now number) }
 {
     let mut links = Table::new(alloc);
     for row in rows {
@@ -60,7 +61,7 @@ fn links_of(alloc: Global, rows: &[TreeRow]) -> Result<Table<()>, Memory>
     Ok(links)
 }
 
-// That of the symbolic link to which an edge leads.
+/// Returns the number of the symbolic link to which an edge leads.
 fn link_in(row: &TreeRow) -> Option<u64>
     ensures { result ≡ link_in row.now }
 {
@@ -73,7 +74,7 @@ fn link_in(row: &TreeRow) -> Option<u64>
     }
 }
 
-// Rows, each after a line feed.
+/// Rows, each after a line feed.
 #[derive(Clone, Copy)]
 struct RowLines<'a> {
     rows: &'a [TreeRow],
@@ -81,7 +82,8 @@ struct RowLines<'a> {
 }
 
 impl fmt::Display for RowLines<'_> {
-    ghost output = { λ lines. Some (lines_text (row_text (finite.contains_key lines.links.now)) lines.rows.now) };
+    ghost output = { λ lines. Some
+        (lines_text (row_text (finite.contains_key lines.links.now)) lines.rows.now) };
 
     fn fmt<W: fmt::Write>(&self, f: &mut fmt::Formatter<W>) -> fmt::Result {
         let links = self.links;
@@ -92,7 +94,7 @@ impl fmt::Display for RowLines<'_> {
     }
 }
 
-// One row.
+/// One row.
 #[derive(Clone, Copy)]
 struct RowText<'a> {
     row: &'a TreeRow,
@@ -108,15 +110,20 @@ impl fmt::Display for RowText<'_> {
             TreeRow::Edge {
                 entry: Entry { dir, name },
                 node,
-            } => write!(f, "edge {dir} {} {}", Coded(name.as_bytes()), node.number()),
+            } => write!(
+                f,
+                "edge {dir} {} {}",
+                PercentCoded(name.as_bytes()),
+                node.number()
+            ),
             TreeRow::File { number, bytes, .. } if self.links.contains(*number) => {
-                write!(f, "link {number}{}", Data(bytes.as_slice()))
+                write!(f, "link {number}{}", CodedArgument(bytes.as_slice()))
             }
             TreeRow::File {
                 number,
                 size,
                 bytes,
-            } => write!(f, "file {number} {size}{}", Data(bytes.as_slice())),
+            } => write!(f, "file {number} {size}{}", CodedArgument(bytes.as_slice())),
             TreeRow::Attributes { number, attributes } => {
                 write!(f, "attributes {number} {}", AttributesText(*attributes))
             }

@@ -39,10 +39,10 @@ impl<'a> Words<'a> {
         Some(Words::of(text))
     }
 
-    /// The same words, without this byte at the front of the first, which is no space. `None` where
-    /// it does not stand there.
+    /// Returns these words without this byte, which is no space, at the front of the first word.
+    /// Returns `None` if the first word does not begin with this byte.
     #[tactic(auto, using(crate::proofs::Bytes::stripped_front))]
-    pub fn strip(&self, byte: u8) -> Option<Words<'a>>
+    pub fn strip_first_byte(&self, byte: u8) -> Option<Words<'a>>
         requires { byte ≢ 32 }
         ensures { result ≡ stripped byte self.now }
     {
@@ -53,15 +53,16 @@ impl<'a> Words<'a> {
     }
 
     /// The word that is left alone.
-    pub fn only(self) -> Option<&'a [u8]>
+    pub fn sole(self) -> Option<&'a [u8]>
         ensures { option_copied result ≡ only_word self.entry }
     {
         alone(self.rest?)
     }
 
-    /// The same, or an empty word where none is left.
+    /// Returns the only word that is left, or an empty word if none is left. Returns `None` if more
+    /// than one is left.
     #[tactic(auto, using(crate::proofs::Bytes::last_of_text))]
-    pub fn last(self) -> Option<&'a [u8]>
+    pub fn sole_or_empty(self) -> Option<&'a [u8]>
         ensures { option_copied result ≡ last_word self.entry }
     {
         match self.rest {
@@ -96,7 +97,7 @@ impl<'a> Iterator for Words<'a> {
     }
 }
 
-// A text that is one word, which has no space.
+/// Returns a text that is one word: it has no space.
 fn alone(text: &[u8]) -> Option<&[u8]>
     ensures { option_copied result ≡ only_word (words_of text.now) }
 {

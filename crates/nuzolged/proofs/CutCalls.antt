@@ -9,7 +9,7 @@ use Rattle.ft_path.specs.FilePath.{parts_of}
 use Rattle.ft_body.specs.Bytes.{fitting, room_at}
 use Rattle.ft_cells.specs.declared.cell.Cell.TheVariants.{Bytes}
 use Rattle.ft_cells.specs.declared.limits.TreeLimits.{TreeLimits}
-use Rattle.ft_cells.specs.declared.node.Spot.{Spot}
+use Rattle.ft_cells.specs.declared.node.PathEnd.{PathEnd}
 use Rattle.ft_cells.specs.declared.open_file.AccessMode.{AccessMode}
 use Rattle.ft_cells.specs.declared.open_file.OpenFile.{OpenFile}
 use Rattle.ft_cells.specs.Looks.{Looks, Answer, Look, then}
@@ -66,11 +66,11 @@ by_mode of all same mode = ⊎_elim
     (λ (h : mode ≤ 4095). ap of (omega arith)) (cases_lt 4095 mode)
 
 -- with a fault it does not count where the call would go on
-judged_fault : (follow : Bool) (parts : Result Parts Errno) (go : Spot → Looks Outcome) → from_judged (Some EINVAL) follow parts go ≡ from_judged (Some EINVAL) follow parts (λ spot. Answer (failed EINVAL))
+judged_fault : (follow : Bool) (parts : Result Parts Errno) (go : PathEnd → Looks Outcome) → from_judged (Some EINVAL) follow parts go ≡ from_judged (Some EINVAL) follow parts (λ spot. Answer (failed EINVAL))
 judged_fault follow (Err e) go = refl
 judged_fault follow (Ok parts) go = refl
 
-judged-cut : (follow : Bool) (parts : Result Parts Errno) (go : ℕ → Spot → Looks Outcome) (mode : ℕ) → from_judged (mode_fault (Some (cut_mode mode))) follow parts (go (cut_mode mode)) ≡ from_judged (mode_fault (Some mode)) follow parts (go mode)
+judged-cut : (follow : Bool) (parts : Result Parts Errno) (go : ℕ → PathEnd → Looks Outcome) (mode : ℕ) → from_judged (mode_fault (Some (cut_mode mode))) follow parts (go (cut_mode mode)) ≡ from_judged (mode_fault (Some mode)) follow parts (go mode)
 judged-cut follow parts go = by_mode (λ mode. from_judged (mode_fault (Some mode)) follow parts (go mode)) (from_judged (Some EINVAL) follow parts (λ spot. Answer (failed EINVAL)))
     (λ mode h. ap (λ (o : Option Errno). from_judged o follow parts (go mode)) (too_large mode h) ∙ judged_fault follow parts (go mode))
 

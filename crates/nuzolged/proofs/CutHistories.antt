@@ -25,9 +25,9 @@ use Rattle.ft_history.specs.Locks.{is_owner, holds_lock, retains_lock}
 use Rattle.ft_history.specs.Undoing.{Target, find_back, is_own}
 use Rattle.ft_history.specs.Undoing.Target.{Found, SubSince, Nothing}
 use Rattle.ft_history.specs.Promises.{calls_below}
-use Rattle.ft_moss.specs.declared.rule.Rule.{Rule}
-use Rattle.ft_moss.specs.declared.rule.Rule.TheVariants.{Profile, Moss}
-use Rattle.ft_moss.specs.Law.{History, blockers_by}
+use Rattle.ft_lock_rules.specs.declared.rule.Rule.{Rule}
+use Rattle.ft_lock_rules.specs.declared.rule.Rule.TheVariants.{Profile, Moss}
+use Rattle.ft_lock_rules.specs.Law.{History, blockers_by}
 use Rattle.ft_core.proofs.Allowing.{limits-exec}
 use Rattle.nuzolged.specs.Cuts.{cut_of}
 use Rattle.nuzolged.proofs.CutCalls.{steps_of_cut}

@@ -6,7 +6,7 @@ use Rattle.ft_cells.specs.Rows.{rows_of}
 use Rattle.ft_cells.specs.declared.limits.TreeLimits.{TreeLimits}
 use Rattle.ft_posix.specs.declared.call.Call.{Call}
 use Rattle.ft_posix.specs.declared.call.Call.TheVariants.{Mkdir, Rmdir, List as ListDir, Open, Close, Read, Write, Pread, Pwrite, Lseek, Truncate, Ftruncate, Stat, Fstat, Link, Unlink, Rename, Symlink, Readlink, Lstat, Chmod, Fchmod, Chown, Lchown, Fchown, Utime, Lutime, Futime}
-use Rattle.ft_moss.specs.declared.line.LockLine.{LockLine}
+use Rattle.ft_lock_rules.specs.declared.line.LockLine.{LockLine}
 use Rattle.ft_waits.specs.declared.edge.Edge.{Edge}
 use Rattle.ft_waits.specs.declared.edge.EdgeKind.{EdgeKind}
 use Rattle.ft_waits.specs.declared.edge.EdgeKind.TheVariants.{Lock, Child}
@@ -18,12 +18,12 @@ use Rattle.ft_core.specs.declared.fault.Fault.{Fault}
 use Rattle.ft_core.specs.declared.request.Answer.{Answer}
 use Rattle.ft_core.specs.declared.request.Answer.TheVariants.{Granted, Waits as WaitsAnswer, Refused}
 use Rattle.ft_core.specs.Reports.{AreLockLines}
-use Rattle.ft_replies.specs.declared.line.Report.{Report}
-use Rattle.ft_replies.specs.declared.line.Report.TheVariants.{Tree, Locks, Attributes, Waits}
-use Rattle.ft_replies.specs.Lines.{IsReportText}
+use Rattle.ft_line.specs.declared.line.Query.{Query}
+use Rattle.ft_line.specs.declared.line.Query.TheVariants.{Tree, Locks, Attributes, Waits}
+use Rattle.ft_line.specs.Lines.{IsReportText}
 use Rattle.ft_core.specs.declared.request.Request.TheVariants.{Ask}
 use Rattle.ft_session.specs.declared.session.Session.{Session}
-use Rattle.nuzolged.specs.declared.told.Told.{Told}
+use Rattle.nuzolged.specs.declared.nuz_answer.NuzAnswer.{NuzAnswer}
 use Rattle.nuzolged.specs.Asked.{IsAsked, IsCallAsked, limits_of}
 use Rattle.nuzolged.specs.Cuts.{cut_path, cut_mode, most_at, most_of, cut_of, cut_event, limits_in, AreAlike, CutLaw}
 use Rattle.nuzolged.proofs.CutStates.{left, alike_ask, tree-same, lock-same, fate-same, children-same, blockers-same, accesses-same, reply-same, grant-alike, wait-alike, calls, requests}
@@ -103,7 +103,7 @@ edges-alike s s' alike edges are = record {
   exact = λ e. ((λ inside. waits-alike s s' alike e.kind e.from e.to ((are.exact e).0 inside)), (λ waits. (are.exact e).1 (waits-alike s' s (back s s' alike) e.kind e.from e.to waits)));
 }
 
-reports-alike : (s s' : State) → AreAlike s s' → (report : Report) (text : List ℕ) → IsReportText s report text → IsReportText s' report text
+reports-alike : (s s' : State) → AreAlike s s' → (report : Query) (text : List ℕ) → IsReportText s report text → IsReportText s' report text
 reports-alike s s' alike Tree text is = is ∙ sym (ap (λ tree. tree_text (rows_of tree)) (tree-same s s' alike))
 reports-alike s s' alike Locks text is = (is.0, locks-alike s s' alike is.0 is.1, is.2)
 reports-alike s s' alike Attributes text is = (is.0, locks-alike s s' alike is.0 is.1, is.2)
@@ -140,7 +140,7 @@ module _ (rule : BlockingRule) (s : State) (t : ℕ) (call call' : Call) (same :
   whole-step a after has = by_fault (refusal_of s (Ask t call)) a after has
 
 -- what is asked by the cut of a call is asked by the call itself
-pub whole_asked : (old new : Option Session) (txn : ℕ) (told : Told) (call : Call) → IsAsked old (Ask txn (cut_of (limits_of old) call)) told new → IsCallAsked old txn call told new
+pub whole_asked : (old new : Option Session) (txn : ℕ) (told : NuzAnswer) (call : Call) → IsAsked old (Ask txn (cut_of (limits_of old) call)) told new → IsCallAsked old txn call told new
 whole_asked None new txn told call has = has
 whole_asked (Some old) new txn told call has =
     let s = old.core.state in (has.0, has.1, has.2, has.3, has.4, λ rule. whole-step rule s txn (cut_of (limits_in s) call) call (sym (left-left (limits_in s) call)) has.1 has.0.core.state)

@@ -18,9 +18,9 @@ use Rattle.ft_history.specs.Undoing.Target.{Found, SubSince as SubSinceTarget, N
 use Rattle.ft_history.specs.Promises.{calls_below}
 use Rattle.ft_forest.specs.Transactions.{depth_within}
 use Rattle.ft_forest.specs.declared.TheConstants.{LAST_NUMBER}
-use Rattle.ft_moss.specs.declared.line.LockLine.{LockLine}
-use Rattle.ft_moss.specs.Locks.{is_held}
-use Rattle.ft_moss.specs.Law.{is_of, is_lock, blockers_by}
+use Rattle.ft_lock_rules.specs.declared.line.LockLine.{LockLine}
+use Rattle.ft_lock_rules.specs.Locks.{is_held}
+use Rattle.ft_lock_rules.specs.Law.{is_of, is_lock, blockers_by}
 use Rattle.ft_core.specs.declared.fault.Fault.{Fault}
 use Rattle.ft_core.specs.declared.fault.Fault.TheVariants.{Memory, Full, Deep, ChildLive, Live as LiveFault}
 use Rattle.ft_core.specs.declared.request.Event.{Event}

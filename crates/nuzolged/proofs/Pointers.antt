@@ -15,7 +15,7 @@ use Rattle.core.proofs.alloc.Calls.{handle_tells}
 use Rattle.core.proofs.cell.Inside.{Good}
 use Rattle.std_heap.specs.declared.Global.{Global}
 use Rattle.std_heap.specs.contracts.GlobalAllocator.TheImpl.{ghosts}
-use Rattle.ft_loose.specs.contracts.Loose as loose
+use Rattle.ft_loose.specs.contracts.RawBox as loose
 use Rattle.nuzolged.specs.Handles.{held}
 use Rattle.nuzolged.specs.contracts.handle.Handle as inner
 use Rattle.nuzolged.specs.declared.handle.Handle.{Handle}

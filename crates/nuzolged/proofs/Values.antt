@@ -20,7 +20,7 @@ use Rattle.std_heap.specs.declared.Global.{Global}
 use Rattle.std_heap.specs.contracts.Global as global
 use Rattle.std_heap.specs.contracts.GlobalAllocator.TheImpl.{ghosts}
 use Rattle.std_heap.proofs.Global.TheLaws as global_laws
-use Rattle.ft_loose.specs.contracts.Loose as loose
+use Rattle.ft_loose.specs.contracts.RawBox as loose
 use Rattle.ft_session.specs.contracts.session.Session as session
 use Rattle.ft_session.specs.declared.session.Session.{Session}
 use Rattle.nuzolged.specs.Handles.{held}

@@ -2,7 +2,7 @@
 use Rattle.std.specs.Prelude.{◌≡◌, ◌==◌, ℕ, cond, List, [], ◌∷◌, map, Option, Some, None, slice_get, unwrap_or}
 use Rattle.ft_session.specs.declared.session.Session.{Session}
 use Rattle.ft_session.specs.Parts.{blockers_in}
-use Rattle.nuzolged.specs.declared.told.Told.{Told}
+use Rattle.nuzolged.specs.declared.nuz_answer.NuzAnswer.{NuzAnswer}
 use Rattle.nuzolged.specs.declared.answered.Answered.{Answered}
 
 -- the transaction at a place, or 0 if there is none
@@ -19,7 +19,7 @@ first_blockers None = first_of []
 first_blockers (Some session) = first_of (blockers_in session.last)
 
 -- the same, if what is told is that a call waits; else none
-abbrev pub blockers_told : Told → Option Session → List ℕ
+abbrev pub blockers_told : NuzAnswer → Option Session → List ℕ
 blockers_told told session = cond (told.code == 1100) (first_blockers session) (first_of [])
 
 -- The code is returned. The answer has the first blockers of a call that waits, and how many bytes

@@ -14,15 +14,15 @@ use Rattle.ft_core.specs.States.{State}
 use Rattle.ft_core.specs.Steps.{BlockingRule, IsStep}
 use Rattle.ft_session.specs.declared.session.Session.{Session}
 use Rattle.ft_session.specs.Sessions.{HasAnswered}
-use Rattle.nuzolged.specs.declared.told.Told.{Told}
-use Rattle.nuzolged.specs.declared.asking.Unasked.{Unasked}
-use Rattle.nuzolged.specs.declared.asking.Unasked.TheVariants as unasked
+use Rattle.nuzolged.specs.declared.nuz_answer.NuzAnswer.{NuzAnswer}
+use Rattle.nuzolged.specs.declared.asking.BadArgument.{BadArgument}
+use Rattle.nuzolged.specs.declared.asking.BadArgument.TheVariants as unasked
 use Rattle.nuzolged.specs.Cuts.{cut_path, cut_of, limits_in, AreAlike}
 use Rattle.nuzolged.specs.Numbers.{told_of_answer, closed, bad}
 
 -- The handle is closed, and stays so. Or the core of its session has made one legal step for
 -- exactly this request, and what is told is its answer.
-abbrev pub IsAsked : Option Session → Request → Told → Option Session → Type 0
+abbrev pub IsAsked : Option Session → Request → NuzAnswer → Option Session → Type 0
 IsAsked None request told new = (told ≡ closed) × (new ≡ None)
 IsAsked (Some old) request told new = (session : Session) × (answer : Answer) × (new ≡ Some session) × HasAnswered old request answer session × (told ≡ told_of_answer answer)
 
@@ -40,35 +40,35 @@ IsWholeAsked old txn call answer session =
 
 -- The same of a call that is cut (`Cuts`). The core has made one legal step for what is left of it;
 -- and one for the call itself has the same answer, and leaves a state that is alike.
-abbrev pub IsCallAsked : Option Session → ℕ → Call → Told → Option Session → Type 0
+abbrev pub IsCallAsked : Option Session → ℕ → Call → NuzAnswer → Option Session → Type 0
 IsCallAsked None txn call told new = (told ≡ closed) × (new ≡ None)
 IsCallAsked (Some old) txn call told new =
     (session : Session) × (answer : Answer) × (new ≡ Some session) × HasAnswered old (Ask txn (cut_of (limits_in old.core.state) call)) answer session × (told ≡ told_of_answer answer)
     × IsWholeAsked old txn call answer session
 
 -- An argument is bad: nothing has changed.
-abbrev pub IsBad : Option Session → Told → Option Session → Type 0
+abbrev pub IsBad : Option Session → NuzAnswer → Option Session → Type 0
 IsBad None told new = (told ≡ closed) × (new ≡ None)
 IsBad (Some old) told new = (told ≡ bad) × (new ≡ Some old)
 
 -- a call in a transaction is asked for exactly if no argument is bad
-abbrev pub IsCalled : Bool → Option Session → ℕ → Call → Told → Option Session → Type 0
+abbrev pub IsCalled : Bool → Option Session → ℕ → Call → NuzAnswer → Option Session → Type 0
 IsCalled is_bad old txn call told new = ((is_bad ≡ false) × IsCallAsked old txn call told new) ⊎ ((is_bad ≡ true) × IsBad old told new)
 
 -- ---- arguments
 
 -- it is bad; else there was no memory for a copy of it
-abbrev pub is_bad : Unasked → Bool
+abbrev pub is_bad : BadArgument → Bool
 is_bad unasked.Memory = false
 is_bad unasked.Bad = true
 
 -- what is left of a path of these bytes, or why there is none
-abbrev pub IsPath : List ℕ → Result (List ℕ) Unasked → Type 0
+abbrev pub IsPath : List ℕ → Result (List ℕ) BadArgument → Type 0
 IsPath bytes (Ok path) = (path ≡ cut_path bytes) × (has_nul bytes ≡ false)
 IsPath bytes (Err why) = has_nul bytes ≡ is_bad why
 
 -- the same of two
-abbrev pub ArePaths : List ℕ → List ℕ → Result (List ℕ × List ℕ) Unasked → Type 0
+abbrev pub ArePaths : List ℕ → List ℕ → Result (List ℕ × List ℕ) BadArgument → Type 0
 ArePaths from to (Ok paths) = (paths.0 ≡ cut_path from) × (paths.1 ≡ cut_path to) × ((has_nul from || has_nul to) ≡ false)
 ArePaths from to (Err why) = (has_nul from || has_nul to) ≡ is_bad why
 

@@ -15,8 +15,8 @@ use Rattle.ft_core.specs.declared.request.Request.{Request}
 use Rattle.ft_core.specs.declared.request.Request.TheVariants.{Ask}
 use Rattle.ft_core.specs.States.{State}
 use Rattle.ft_core.specs.Steps.{IsStep, exact_rule}
-use Rattle.ft_replies.specs.declared.line.Report.{Report}
-use Rattle.ft_replies.specs.Lines.{IsReportText}
+use Rattle.ft_line.specs.declared.line.Query.{Query}
+use Rattle.ft_line.specs.Lines.{IsReportText}
 
 -- one byte more of a path, or of the target of a symbolic link, than it may have: a longer one is
 -- ENAMETOOLONG, whatever comes after (POSIX.1-2017, System Interfaces, 2.3 and symlink)
@@ -112,6 +112,6 @@ pub record CutLaw : Type 0 where
   -- so has whatever else is asked, and asked later, since what is left is alike;
   pub requests : (s s' : State) → AreAlike s s' → (request : Request) → AnswerAlike s request s' request
   -- and reports are the same.
-  pub reports : (s s' : State) → AreAlike s s' → (report : Report) (text : List ℕ) → IsReportText s report text → IsReportText s' report text
+  pub reports : (s s' : State) → AreAlike s s' → (report : Query) (text : List ℕ) → IsReportText s report text → IsReportText s' report text
   -- A call and what is left of it are such calls.
   pub left : (limits : TreeLimits) (call : Call) → cut_of limits (cut_of limits call) ≡ cut_of limits call

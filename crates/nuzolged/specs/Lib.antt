@@ -1,9 +1,11 @@
+-- What callers cite.
+pub mod Cuts
+-- What the crate keeps true of itself.
 pub mod Handles
 pub mod Listing
 pub mod Numbers
 pub mod Answers
 pub mod Flags
-pub mod Cuts
 pub mod Asked
 pub mod Opened
 pub mod Parts

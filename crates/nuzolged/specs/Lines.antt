@@ -1,31 +1,31 @@
 -- The outcome of a line through a handle, and its reply.
 use Rattle.std.specs.Prelude.{◌≡◌, ◌⊎◌, ◌==◌, ◌||◌, ℕ, Bool, not, MatchBool, List, length, Option, Some, None}
-use Rattle.ft_replies.specs.declared.line.Line.{Line}
-use Rattle.ft_replies.specs.declared.line.Line.TheVariants.{Bad}
+use Rattle.ft_line.specs.declared.line.ScriptLine.{ScriptLine}
+use Rattle.ft_line.specs.declared.line.ScriptLine.TheVariants.{Bad}
 use Rattle.ft_session.specs.Buffers.{filled}
 use Rattle.ft_session.specs.Parts.{reply_text}
-use Rattle.ft_session.specs.Sessions.{IsCarriedOut, IsSame}
-use Rattle.ft_session.specs.declared.last.Last.{Last}
+use Rattle.ft_session.specs.Sessions.{IsExecuted, IsSame}
+use Rattle.ft_session.specs.declared.last_answer.LastAnswer.{LastAnswer}
 use Rattle.ft_session.specs.declared.session.Session.{Session}
-use Rattle.nuzolged.specs.declared.told.Told.{Told}
+use Rattle.nuzolged.specs.declared.nuz_answer.NuzAnswer.{NuzAnswer}
 use Rattle.nuzolged.specs.Numbers.{told_of, told_size, no_memory, closed, bad}
 
 -- The line was carried out, and the answer is its outcome. Or nothing has changed: it is not a
 -- valid request, or there was no memory.
-abbrev pub IsLineTold : Session → Line → Told → Session → Type 0
-IsLineTold old line told new = (IsCarriedOut old line new × (told ≡ told_of new.last)) ⊎ (IsSame old new × (((line ≡ Bad) × (told ≡ bad)) ⊎ (told ≡ no_memory)))
+abbrev pub IsLineTold : Session → ScriptLine → NuzAnswer → Session → Type 0
+IsLineTold old line told new = (IsExecuted old line new × (told ≡ told_of new.last)) ⊎ (IsSame old new × (((line ≡ Bad) × (told ≡ bad)) ⊎ (told ≡ no_memory)))
 
 -- the same through a handle, which may be closed
-abbrev pub IsLineAsked : Option Session → Line → Told → Option Session → Type 0
+abbrev pub IsLineAsked : Option Session → ScriptLine → NuzAnswer → Option Session → Type 0
 IsLineAsked None line told new = (told ≡ closed) × (new ≡ None)
 IsLineAsked (Some old) line told new = (session : Session) × (new ≡ Some session) × IsLineTold old line told session
 
 -- The reply is copied, and its length told; or there was no memory for its text.
-abbrev pub HasReplied : Last → Told → List ℕ → List ℕ → Type 0
+abbrev pub HasReplied : LastAnswer → NuzAnswer → List ℕ → List ℕ → Type 0
 HasReplied last told before after = ((told ≡ told_size (length (reply_text last))) × (after ≡ filled (reply_text last) before)) ⊎ ((told ≡ no_memory) × (after ≡ before))
 
 -- the same through a handle, which may be closed
-abbrev pub IsReplied : Option Session → Told → List ℕ → List ℕ → Type 0
+abbrev pub IsReplied : Option Session → NuzAnswer → List ℕ → List ℕ → Type 0
 IsReplied None told before after = (told ≡ closed) × (after ≡ before)
 IsReplied (Some session) told before after = HasReplied session.last told before after
 
@@ -33,7 +33,7 @@ IsReplied (Some session) told before after = HasReplied session.last told before
 
 -- The reply is copied, and it is told how many bytes it has; or there was no memory for its text,
 -- and the greatest number is told.
-abbrev pub IsSizeOfReply : Last → ℕ → List ℕ → List ℕ → Type 0
+abbrev pub IsSizeOfReply : LastAnswer → ℕ → List ℕ → List ℕ → Type 0
 IsSizeOfReply last size before after = ((size ≡ length (reply_text last)) × (after ≡ filled (reply_text last) before)) ⊎ ((size ≡ 18446744073709551615) × (after ≡ before))
 
 -- the same through a handle; a closed one has no reply

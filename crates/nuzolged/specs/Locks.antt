@@ -1,12 +1,12 @@
 -- The answer about the locks of a transaction.
 use Rattle.std.specs.Prelude.{◌≡◌, ◌⊎◌, ◌==◌, ℕ, List, [], ◌∷◌, ◌++◌, filter, length, Option, Some, None}
-use Rattle.ft_moss.specs.declared.line.LockLine.{LockLine}
+use Rattle.ft_lock_rules.specs.declared.line.LockLine.{LockLine}
 use Rattle.ft_core.specs.States.{State}
 use Rattle.ft_core.specs.Reports.{AreLockLines}
-use Rattle.ft_replies.specs.Reports.{locks_text, attribute_locks_text}
+use Rattle.ft_line.specs.Reports.{locks_text, attribute_locks_text}
 use Rattle.ft_session.specs.Buffers.{filled}
 use Rattle.ft_session.specs.declared.session.Session.{Session}
-use Rattle.nuzolged.specs.declared.told.Told.{Told}
+use Rattle.nuzolged.specs.declared.nuz_answer.NuzAnswer.{NuzAnswer}
 use Rattle.nuzolged.specs.Numbers.{told_size, no_memory, closed}
 
 -- those of these locks that a transaction owns
@@ -23,11 +23,11 @@ abbrev pub IsTextOfLocks : State → ℕ → List ℕ → Type 0
 IsTextOfLocks s txn text = (locks : List LockLine) × AreLockLines s locks × (text ≡ text_of (owned_by txn locks))
 
 -- The text is copied, and its length told; or there was no memory for it.
-abbrev pub HasLocks : State → ℕ → Told → List ℕ → List ℕ → Type 0
+abbrev pub HasLocks : State → ℕ → NuzAnswer → List ℕ → List ℕ → Type 0
 HasLocks s txn told before after =
     ((text : List ℕ) × IsTextOfLocks s txn text × (told ≡ told_size (length text)) × (after ≡ filled text before)) ⊎ ((told ≡ no_memory) × (after ≡ before))
 
 -- the same through a handle, which may be closed
-abbrev pub AreLocksTold : Option Session → ℕ → Told → List ℕ → List ℕ → Type 0
+abbrev pub AreLocksTold : Option Session → ℕ → NuzAnswer → List ℕ → List ℕ → Type 0
 AreLocksTold None txn told before after = (told ≡ closed) × (after ≡ before)
 AreLocksTold (Some session) txn told before after = HasLocks session.core.state txn told before after

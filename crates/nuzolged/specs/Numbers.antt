@@ -12,13 +12,13 @@ use Rattle.ft_core.specs.declared.fault.Fault.{Fault}
 use Rattle.ft_core.specs.declared.fault.Fault.TheVariants as fault
 use Rattle.ft_core.specs.declared.request.Answer.{Answer}
 use Rattle.ft_core.specs.declared.request.Answer.TheVariants.{Txn, Granted, Waits, Dropped, Committed, Aborted, Undone, Cleared, Refused}
-use Rattle.ft_session.specs.declared.last.Last.{Last}
-use Rattle.ft_session.specs.declared.last.Last.TheVariants as last
-use Rattle.nuzolged.specs.declared.told.Told.{Told}
+use Rattle.ft_session.specs.declared.last_answer.LastAnswer.{LastAnswer}
+use Rattle.ft_session.specs.declared.last_answer.LastAnswer.TheVariants as last
+use Rattle.nuzolged.specs.declared.nuz_answer.NuzAnswer.{NuzAnswer}
 use Rattle.nuzolged.specs.Listing.{kind_number, listing, size_of}
 
 -- the answer if no call has looked at a directory or file
-abbrev pub told_of_none : ℕ → ℕ → ℕ → ℕ → ℕ → Told
+abbrev pub told_of_none : ℕ → ℕ → ℕ → ℕ → ℕ → NuzAnswer
 told_of_none code kind stamp number size = record {
   code = code;
   kind = kind;
@@ -35,27 +35,27 @@ told_of_none code kind stamp number size = record {
 }
 
 -- a code, a stamp and a number, and nothing else
-abbrev pub told : ℕ → ℕ → ℕ → Told
+abbrev pub told : ℕ → ℕ → ℕ → NuzAnswer
 told code stamp number = told_of_none code 0 stamp number 0
 
 -- it is done, and there are so many bytes
-abbrev pub told_size : ℕ → Told
+abbrev pub told_size : ℕ → NuzAnswer
 told_size size = told_of_none 0 0 0 0 size
 
 -- the same of a name, with the kind of what it leads to
-abbrev pub told_name : Kind → ℕ → Told
+abbrev pub told_name : Kind → ℕ → NuzAnswer
 told_name kind size = told_of_none 0 (kind_number kind) 0 0 size
 
 -- there was no memory
-abbrev pub no_memory : Told
+abbrev pub no_memory : NuzAnswer
 no_memory = told 1001 0 0
 
 -- the handle holds no tree
-abbrev pub closed : Told
+abbrev pub closed : NuzAnswer
 closed = told 1200 0 0
 
 -- an argument is not valid
-abbrev pub bad : Told
+abbrev pub bad : NuzAnswer
 bad = told 1201 0 0
 
 -- the numbers of errors, as Linux has them (errno.h)
@@ -96,7 +96,7 @@ epoch = record { seconds = pos 0; nanoseconds = 0 }
 
 -- the answer of `stat`: the attributes even if they are those that one has anyway, and whether
 -- there is a time
-abbrev pub told_of_info : ℕ → Kind → ℕ → ℕ → ℕ → Attributes → Option Timestamp → Told
+abbrev pub told_of_info : ℕ → Kind → ℕ → ℕ → ℕ → Attributes → Option Timestamp → NuzAnswer
 told_of_info stamp kind number links size attributes time = record {
   code = 0;
   kind = kind_number kind;
@@ -115,7 +115,7 @@ told_of_info stamp kind number links size attributes time = record {
 -- a reply: its stamp, and code 0 with a number, with how many names there are and how many bytes
 -- those have as C has them, with how many bytes there are, or with the answer of `stat`; or the
 -- number of its error
-abbrev pub told_of_reply : ℕ → Reply → Told
+abbrev pub told_of_reply : ℕ → Reply → NuzAnswer
 told_of_reply stamp Done = told 0 stamp 0
 told_of_reply stamp (Names names) = told_of_none 0 0 stamp (length names) (size_of (listing names))
 told_of_reply stamp (Number number) = told 0 stamp number
@@ -124,7 +124,7 @@ told_of_reply stamp (Info kind number links size attributes time) = told_of_info
 told_of_reply stamp (Failed errno) = told (errno_number errno) stamp 0
 
 -- an answer: the code 1100 says that the call waits, and the number for how many transactions
-abbrev pub told_of_answer : Answer → Told
+abbrev pub told_of_answer : Answer → NuzAnswer
 told_of_answer (Txn txn) = told 0 0 txn
 told_of_answer (Granted stamp reply) = told_of_reply stamp reply
 told_of_answer (Waits blockers) = told 1100 0 (length blockers)
@@ -136,6 +136,6 @@ told_of_answer Cleared = told 0 0 0
 told_of_answer (Refused fault) = told (fault_number fault) 0 0
 
 -- the outcome of the last request
-abbrev pub told_of : Last → Told
+abbrev pub told_of : LastAnswer → NuzAnswer
 told_of (last.Answer answer) = told_of_answer answer
 told_of (last.Text text) = told_size (length text)

@@ -1,13 +1,13 @@
 -- The contents of an opened handle.
 use Rattle.std.specs.Prelude.{◌≡◌, ◌⊎◌, ◌==◌, ◌&&◌, ℕ, Bool, cond, true, nat_le, List, [], Option, Some, None, suc, zero, slice_index}
-use Rattle.ft_moss.specs.declared.rule.Rule.{Rule}
-use Rattle.ft_moss.specs.declared.rule.Rule.TheVariants.{Profile, Moss}
+use Rattle.ft_lock_rules.specs.declared.rule.Rule.{Rule}
+use Rattle.ft_lock_rules.specs.declared.rule.Rule.TheVariants.{Profile, Moss}
 use Rattle.ft_core.specs.declared.fault.Fault.{Fault}
 use Rattle.ft_core.specs.declared.fault.Fault.TheVariants.{Memory, BadLimits}
 use Rattle.ft_core.specs.declared.limits.Limits.{Limits as CoreLimits}
 use Rattle.ft_core.specs.Limits.{are_within, greatest_limits}
 use Rattle.ft_core.specs.States.{first_state}
-use Rattle.ft_session.specs.declared.last.Last.TheVariants.{Text}
+use Rattle.ft_session.specs.declared.last_answer.LastAnswer.TheVariants.{Text}
 use Rattle.ft_session.specs.declared.session.Session.{Session}
 use Rattle.nuzolged.specs.declared.handle.Handle.{Handle}
 use Rattle.nuzolged.specs.declared.limits.Limits.{Limits}

@@ -5,27 +5,27 @@ use Rattle.ft_posix.specs.declared.call.Reply.{Reply}
 use Rattle.ft_posix.specs.declared.call.Reply.TheVariants.{Names, Bytes}
 use Rattle.ft_core.specs.declared.request.Answer.{Answer}
 use Rattle.ft_core.specs.declared.request.Answer.TheVariants.{Granted}
-use Rattle.ft_session.specs.declared.last.Last.{Last}
-use Rattle.ft_session.specs.declared.last.Last.TheVariants as last
+use Rattle.ft_session.specs.declared.last_answer.LastAnswer.{LastAnswer}
+use Rattle.ft_session.specs.declared.last_answer.LastAnswer.TheVariants as last
 use Rattle.ft_session.specs.declared.session.Session.{Session}
 use Rattle.ft_session.specs.Parts.{names_in, blockers_in}
-use Rattle.nuzolged.specs.declared.told.Told.{Told}
+use Rattle.nuzolged.specs.declared.nuz_answer.NuzAnswer.{NuzAnswer}
 use Rattle.nuzolged.specs.Listing.{listing, size_of}
 use Rattle.nuzolged.specs.Numbers.{told, told_size, told_name, closed, bad}
 
 -- ---- a name of a list
 
 -- its kind, and how many bytes it has; `bad` if there is none
-abbrev pub named : Option (List ℕ × Kind) → Told
+abbrev pub named : Option (List ℕ × Kind) → NuzAnswer
 named None = bad
 named (Some name) = told_name name.1 (length name.0)
 
 -- of the name at this place
-abbrev pub name_at : Last → ℕ → Told
+abbrev pub name_at : LastAnswer → ℕ → NuzAnswer
 name_at last index = named (slice_get (names_in last) index)
 
 -- the same through a handle, which may be closed
-abbrev pub name_told : Option Session → ℕ → Told
+abbrev pub name_told : Option Session → ℕ → NuzAnswer
 name_told None index = closed
 name_told (Some session) index = name_at session.last index
 
@@ -35,7 +35,7 @@ first_part None = None
 first_part (Some name) = Some name.0
 
 -- those of the name at this place
-abbrev pub name_bytes_at : Last → ℕ → Option (List ℕ)
+abbrev pub name_bytes_at : LastAnswer → ℕ → Option (List ℕ)
 name_bytes_at last index = first_part (slice_get (names_in last) index)
 
 -- its bytes, if there is one
@@ -46,16 +46,16 @@ name_bytes (Some session) index = name_bytes_at session.last index
 -- ---- a transaction for which a call waits
 
 -- its number; `bad` if there is none
-abbrev pub numbered : Option ℕ → Told
+abbrev pub numbered : Option ℕ → NuzAnswer
 numbered None = bad
 numbered (Some txn) = told 0 0 txn
 
 -- of the transaction at this place
-abbrev pub blocker_at : Last → ℕ → Told
+abbrev pub blocker_at : LastAnswer → ℕ → NuzAnswer
 blocker_at last index = numbered (slice_get (blockers_in last) index)
 
 -- the same through a handle, which may be closed
-abbrev pub blocker_told : Option Session → ℕ → Told
+abbrev pub blocker_told : Option Session → ℕ → NuzAnswer
 blocker_told None index = closed
 blocker_told (Some session) index = blocker_at session.last index
 
@@ -73,17 +73,17 @@ data_answered (Granted stamp reply) = data_of reply
 data_answered other = None
 
 -- the same of the outcome of the last request
-abbrev pub data_in : Last → Option (List ℕ)
+abbrev pub data_in : LastAnswer → Option (List ℕ)
 data_in (last.Answer answer) = data_answered answer
 data_in (last.Text text) = None
 
 -- how many there are; `bad` if there are none
-abbrev pub data_count : Option (List ℕ) → Told
+abbrev pub data_count : Option (List ℕ) → NuzAnswer
 data_count None = bad
 data_count (Some bytes) = told_size (size_of bytes)
 
 -- the same through a handle, which may be closed
-abbrev pub data_told : Option Session → Told
+abbrev pub data_told : Option Session → NuzAnswer
 data_told None = closed
 data_told (Some session) = data_count (data_in session.last)
 

@@ -3,7 +3,7 @@ ghost use Rattle.std.specs.Prelude.{◌≡◌};
 ghost use Rattle.nuzolged.specs.Answers.{IsTold, IsToldWith, first_blockers, first_of, blocker_or_none};
 
 use crate::handle::Handle;
-use crate::told::{Told, WAITS};
+use crate::nuz_answer::{NuzAnswer, WAITS};
 use ft_core::TxnId;
 use std::alloc::Global;
 
@@ -17,7 +17,7 @@ const BLOCKERS: usize = 8;
 #[derive(Clone, Copy, Debug, PartialEq, Eq)]
 pub struct Answered {
     /// The outcome of the request, in numbers.
-    pub told: Told,
+    pub told: NuzAnswer,
     /// How many bytes the reply to a line has.
     pub reply: u64,
     /// The first transactions for which a call waits, in rising order. A place of none has a 0.
@@ -27,7 +27,7 @@ pub struct Answered {
 }
 
 /// Reports the outcome of a request of a tree: the code is returned too.
-pub(crate) fn tell(alloc: Global, tree: &mut Handle, told: Told, answer: &mut Answered) -> u32
+pub(crate) fn tell(alloc: Global, tree: &mut Handle, told: NuzAnswer, answer: &mut Answered) -> u32
     ensures same { tree.new.session ≡ tree.old.session }
     ensures told { answer.new.told ≡ told }
     ensures rest { IsTold tree.new.session result answer.new }
@@ -35,11 +35,11 @@ pub(crate) fn tell(alloc: Global, tree: &mut Handle, told: Told, answer: &mut An
     tell_with(alloc, tree, told, 0, answer)
 }
 
-/// The same with the length of a reply.
+/// Reports the outcome of a request of a tree, with the length of a reply. Returns the code too.
 pub(crate) fn tell_with(
     alloc: Global,
     tree: &mut Handle,
-    told: Told,
+    told: NuzAnswer,
     reply: u64,
     answer: &mut Answered,
 ) -> u32
@@ -61,7 +61,7 @@ pub(crate) fn tell_with(
     told.code
 }
 
-// The first transactions for which the last call of a tree waits.
+/// Returns the first transactions for which the last call of a tree waits.
 fn blockers_held(alloc: Global, tree: &mut Handle) -> [u64; BLOCKERS]
     ensures same { tree.new.session ≡ tree.old.session }
     ensures blockers { result ≡ first_blockers tree.old.session }
@@ -74,7 +74,7 @@ fn blockers_held(alloc: Global, tree: &mut Handle) -> [u64; BLOCKERS]
     blockers
 }
 
-// The first transactions of a list.
+/// Returns the first transactions of a list.
 fn first_of(blockers: &[TxnId]) -> [u64; BLOCKERS]
     ensures { result ≡ first_of blockers.now }
 {
@@ -90,7 +90,7 @@ fn first_of(blockers: &[TxnId]) -> [u64; BLOCKERS]
     ]
 }
 
-// A transaction of a list, or 0 if there is none.
+/// Returns a transaction of a list, or 0 if there is none.
 fn blocker_or_none(blockers: &[TxnId], index: usize) -> u64
     ensures { result ≡ blocker_or_none blockers.now index }
 {

@@ -7,7 +7,7 @@ ghost use Rattle.nuzolged.specs.Cuts.{cut_mode, cut_of, most_at, most_of};
 ghost use Rattle.nuzolged.specs.Numbers.{no_memory};
 
 use crate::handle::Handle;
-use crate::told::{BAD, CLOSED, Told, told_of};
+use crate::nuz_answer::{BAD, CLOSED, NuzAnswer, told_of};
 use ft_base::{Memory, Sequence};
 use ft_calls::Call;
 use ft_core::{Limits, Request, TxnId};
@@ -17,7 +17,7 @@ use std::alloc::Global;
 
 /// Why a call could not be asked for.
 #[derive(Clone, Copy, Debug, PartialEq, Eq)]
-pub(crate) enum Unasked {
+pub(crate) enum BadArgument {
     /// There was no memory for a copy of its path or of its bytes.
     Memory,
     /// An argument is not valid.
@@ -25,14 +25,14 @@ pub(crate) enum Unasked {
 }
 
 /// Has the core of a handle carry a request out, and returns the answer in numbers.
-pub(crate) fn ask(alloc: Global, tree: &mut Handle, request: Request) -> Told
+pub(crate) fn answer_request(alloc: Global, tree: &mut Handle, request: Request) -> NuzAnswer
     ensures { IsAsked tree.old.session request result tree.new.session }
 {
     match tree.take(alloc) {
-        None => Told::of(CLOSED, 0, 0),
+        None => NuzAnswer::of(CLOSED, 0, 0),
         Some(session) => {
             let mut session = session;
-            session.ask(request);
+            session.answer(request);
             let told = told_of(&session.last);
             tree.put(session);
             told
@@ -42,12 +42,12 @@ pub(crate) fn ask(alloc: Global, tree: &mut Handle, request: Request) -> Told
 
 /// Has the core of a handle make the present tree the base, and returns the answer in numbers.
 /// Takes no memory.
-pub(crate) fn checkpoint(alloc: Global, tree: &mut Handle) -> Told
+pub(crate) fn checkpoint(alloc: Global, tree: &mut Handle) -> NuzAnswer
     ensures asked { IsAsked tree.old.session Checkpoint result tree.new.session }
     ensures memory { result ≢ no_memory }
 {
     let Some(session) = tree.take(alloc) else {
-        return Told::of(CLOSED, 0, 0);
+        return NuzAnswer::of(CLOSED, 0, 0);
     };
     let mut session = session;
     session.checkpoint();
@@ -57,20 +57,21 @@ pub(crate) fn checkpoint(alloc: Global, tree: &mut Handle) -> Told
 }
 
 /// Asks for a call in a transaction. It may be the cut of another one.
-pub(crate) fn call(alloc: Global, tree: &mut Handle, txn: u64, call: Call) -> Told
+pub(crate) fn call(alloc: Global, tree: &mut Handle, txn: u64, call: Call) -> NuzAnswer
     ensures asked { IsAsked tree.old.session (Ask txn call) result tree.new.session }
-    ensures whole { (whole : CallOf) → call ≡ cut_of (limits_of tree.old.session) whole → IsCallAsked tree.old.session txn whole result tree.new.session }
+    ensures whole { (whole : CallOf) → call ≡ cut_of (limits_of tree.old.session) whole
+        → IsCallAsked tree.old.session txn whole result tree.new.session }
 {
-    ask(alloc, tree, Request::Ask(TxnId(txn), call))
+    answer_request(alloc, tree, Request::Ask(TxnId(txn), call))
 }
 
 /// Answers a call for whose path or bytes there was no memory: it is refused, as the core refuses
 /// it, or else for that.
-pub(crate) fn refuse(alloc: Global, tree: &mut Handle, txn: u64) -> Told
+pub(crate) fn refuse(alloc: Global, tree: &mut Handle, txn: u64) -> NuzAnswer
     ensures { (whole : CallOf) → IsCallAsked tree.old.session txn whole result tree.new.session }
 {
     let Some(session) = tree.take(alloc) else {
-        return Told::of(CLOSED, 0, 0);
+        return NuzAnswer::of(CLOSED, 0, 0);
     };
     let mut session = session;
     session.refuse_ask(TxnId(txn));
@@ -80,39 +81,40 @@ pub(crate) fn refuse(alloc: Global, tree: &mut Handle, txn: u64) -> Told
 }
 
 /// Answers that an argument is not valid: nothing changes.
-pub(crate) fn bad_argument(alloc: Global, tree: &mut Handle) -> Told
+pub(crate) fn bad_argument(alloc: Global, tree: &mut Handle) -> NuzAnswer
     ensures { IsBad tree.old.session result tree.new.session }
 {
     let Some(session) = tree.take(alloc) else {
-        return Told::of(CLOSED, 0, 0);
+        return NuzAnswer::of(CLOSED, 0, 0);
     };
     tree.put(session);
-    Told::of(BAD, 0, 0)
+    NuzAnswer::of(BAD, 0, 0)
 }
 
 /// Answers a call that could not be asked for.
-pub(crate) fn turn_away(alloc: Global, tree: &mut Handle, txn: u64, why: Unasked) -> Told
-    ensures { (bad : Bool) (call : CallOf) → bad ≡ is_bad why → IsCalled bad tree.old.session txn call result tree.new.session }
+pub(crate) fn reject(alloc: Global, tree: &mut Handle, txn: u64, why: BadArgument) -> NuzAnswer
+    ensures { (bad : Bool) (call : CallOf) → bad ≡ is_bad why
+        → IsCalled bad tree.old.session txn call result tree.new.session }
 {
     match why {
-        Unasked::Memory => refuse(alloc, tree, txn),
-        Unasked::Bad => bad_argument(alloc, tree),
+        BadArgument::Memory => refuse(alloc, tree, txn),
+        BadArgument::Bad => bad_argument(alloc, tree),
     }
 }
 
 /// Returns a path of these bytes. One that has a null byte is bad. A path that is too long is cut:
 /// only so much of it is copied that it is still too long.
-pub(crate) fn path_of(alloc: Global, bytes: &[u8]) -> Result<FilePath, Unasked>
+pub(crate) fn path_of(alloc: Global, bytes: &[u8]) -> Result<FilePath, BadArgument>
     ensures { IsPath bytes.now result }
 {
     let (kept, rest) = bytes.split_at(bytes.len().min(LONGEST_PATH + 1));
     if rest.contains(&0) {
-        return Err(Unasked::Bad);
+        return Err(BadArgument::Bad);
     }
     match FilePath::new(alloc, kept) {
         Ok(path) => Ok(path),
-        Err(PathFault::NulByte) => Err(Unasked::Bad),
-        Err(PathFault::Memory) => Err(Unasked::Memory),
+        Err(PathFault::NulByte) => Err(BadArgument::Bad),
+        Err(PathFault::Memory) => Err(BadArgument::Memory),
     }
 }
 
@@ -121,13 +123,13 @@ pub(crate) fn paths_of(
     alloc: Global,
     from: &[u8],
     to: &[u8],
-) -> Result<(FilePath, FilePath), Unasked>
+) -> Result<(FilePath, FilePath), BadArgument>
     ensures { ArePaths from.now to.now result }
 {
     match (path_of(alloc, from), path_of(alloc, to)) {
         (Ok(from), Ok(to)) => Ok((from, to)),
-        (Err(Unasked::Bad), _) | (_, Err(Unasked::Bad)) => Err(Unasked::Bad),
-        (Err(Unasked::Memory), _) | (_, Err(Unasked::Memory)) => Err(Unasked::Memory),
+        (Err(BadArgument::Bad), _) | (_, Err(BadArgument::Bad)) => Err(BadArgument::Bad),
+        (Err(BadArgument::Memory), _) | (_, Err(BadArgument::Memory)) => Err(BadArgument::Memory),
     }
 }
 

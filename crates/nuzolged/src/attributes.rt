@@ -6,7 +6,7 @@ ghost use Rattle.nuzolged.specs.Answers.{IsTold};
 ghost use Rattle.nuzolged.specs.Asked.{IsAsked, IsCallAsked, IsCalled, given_of, time_given};
 
 use crate::answered::{Answered, tell};
-use crate::asking::{call, given_of, mode_of, path_of, turn_away};
+use crate::asking::{call, given_of, mode_of, path_of, reject};
 use crate::handle::Handle;
 use ft_calls::Call;
 use ft_tree::Timestamp;
@@ -22,13 +22,14 @@ pub extern "C" fn nuz_chmod(
     mode: u32,
     answer: &mut Answered,
 ) -> u32
-    ensures asked { IsCalled (has_nul path.now) tree.old.session txn (calls.Chmod mode path.now) answer.new.told tree.new.session }
+    ensures asked { IsCalled (has_nul path.now) tree.old.session txn (calls.Chmod mode path.now)
+        answer.new.told tree.new.session }
     ensures told { IsTold tree.new.session result answer.new }
 {
     let mode = mode_of(mode);
     let told = match path_of(alloc, path) {
         Ok(path) => call(alloc, tree, txn, Call::Chmod { mode, path }),
-        Err(why) => turn_away(alloc, tree, txn, why),
+        Err(why) => reject(alloc, tree, txn, why),
     };
     tell(alloc, tree, told, answer)
 }
@@ -43,7 +44,8 @@ pub extern "C" fn nuz_fchmod(
     mode: u32,
     answer: &mut Answered,
 ) -> u32
-    ensures asked { IsCallAsked tree.old.session txn (calls.Fchmod fd mode) answer.new.told tree.new.session }
+    ensures asked { IsCallAsked tree.old.session txn (calls.Fchmod fd mode) answer.new.told
+        tree.new.session }
     ensures told { IsTold tree.new.session result answer.new }
 {
     let mode = mode_of(mode);
@@ -63,13 +65,14 @@ pub extern "C" fn nuz_chown(
     group: u32,
     answer: &mut Answered,
 ) -> u32
-    ensures asked { IsCalled (has_nul path.now) tree.old.session txn (calls.Chown (given_of owner) (given_of group) path.now) answer.new.told tree.new.session }
+    ensures asked { IsCalled (has_nul path.now) tree.old.session txn
+        (calls.Chown (given_of owner) (given_of group) path.now) answer.new.told tree.new.session }
     ensures told { IsTold tree.new.session result answer.new }
 {
     let (owner, group) = (given_of(owner), given_of(group));
     let told = match path_of(alloc, path) {
         Ok(path) => call(alloc, tree, txn, Call::Chown { owner, group, path }),
-        Err(why) => turn_away(alloc, tree, txn, why),
+        Err(why) => reject(alloc, tree, txn, why),
     };
     tell(alloc, tree, told, answer)
 }
@@ -85,13 +88,14 @@ pub extern "C" fn nuz_lchown(
     group: u32,
     answer: &mut Answered,
 ) -> u32
-    ensures asked { IsCalled (has_nul path.now) tree.old.session txn (calls.Lchown (given_of owner) (given_of group) path.now) answer.new.told tree.new.session }
+    ensures asked { IsCalled (has_nul path.now) tree.old.session txn
+        (calls.Lchown (given_of owner) (given_of group) path.now) answer.new.told tree.new.session }
     ensures told { IsTold tree.new.session result answer.new }
 {
     let (owner, group) = (given_of(owner), given_of(group));
     let told = match path_of(alloc, path) {
         Ok(path) => call(alloc, tree, txn, Call::Lchown { owner, group, path }),
-        Err(why) => turn_away(alloc, tree, txn, why),
+        Err(why) => reject(alloc, tree, txn, why),
     };
     tell(alloc, tree, told, answer)
 }
@@ -107,7 +111,9 @@ pub extern "C" fn nuz_fchown(
     group: u32,
     answer: &mut Answered,
 ) -> u32
-    ensures asked { IsAsked tree.old.session (Ask txn (calls.Fchown fd (given_of owner) (given_of group))) answer.new.told tree.new.session }
+    ensures asked { IsAsked tree.old.session
+        (Ask txn (calls.Fchown fd (given_of owner) (given_of group))) answer.new.told
+        tree.new.session }
     ensures told { IsTold tree.new.session result answer.new }
 {
     let (owner, group) = (given_of(owner), given_of(group));
@@ -126,7 +132,8 @@ pub extern "C" fn nuz_utime(
     nanoseconds: u32,
     answer: &mut Answered,
 ) -> u32
-    ensures asked { IsCalled (has_nul path.now) tree.old.session txn (calls.Utime (time_given seconds nanoseconds) path.now) answer.new.told tree.new.session }
+    ensures asked { IsCalled (has_nul path.now) tree.old.session txn
+        (calls.Utime (time_given seconds nanoseconds) path.now) answer.new.told tree.new.session }
     ensures told { IsTold tree.new.session result answer.new }
 {
     let time = Timestamp {
@@ -135,7 +142,7 @@ pub extern "C" fn nuz_utime(
     };
     let told = match path_of(alloc, path) {
         Ok(path) => call(alloc, tree, txn, Call::Utime { time, path }),
-        Err(why) => turn_away(alloc, tree, txn, why),
+        Err(why) => reject(alloc, tree, txn, why),
     };
     tell(alloc, tree, told, answer)
 }
@@ -151,7 +158,8 @@ pub extern "C" fn nuz_lutime(
     nanoseconds: u32,
     answer: &mut Answered,
 ) -> u32
-    ensures asked { IsCalled (has_nul path.now) tree.old.session txn (calls.Lutime (time_given seconds nanoseconds) path.now) answer.new.told tree.new.session }
+    ensures asked { IsCalled (has_nul path.now) tree.old.session txn
+        (calls.Lutime (time_given seconds nanoseconds) path.now) answer.new.told tree.new.session }
     ensures told { IsTold tree.new.session result answer.new }
 {
     let time = Timestamp {
@@ -160,7 +168,7 @@ pub extern "C" fn nuz_lutime(
     };
     let told = match path_of(alloc, path) {
         Ok(path) => call(alloc, tree, txn, Call::Lutime { time, path }),
-        Err(why) => turn_away(alloc, tree, txn, why),
+        Err(why) => reject(alloc, tree, txn, why),
     };
     tell(alloc, tree, told, answer)
 }
@@ -176,7 +184,9 @@ pub extern "C" fn nuz_futime(
     nanoseconds: u32,
     answer: &mut Answered,
 ) -> u32
-    ensures asked { IsAsked tree.old.session (Ask txn (calls.Futime fd (time_given seconds nanoseconds))) answer.new.told tree.new.session }
+    ensures asked { IsAsked tree.old.session
+        (Ask txn (calls.Futime fd (time_given seconds nanoseconds))) answer.new.told
+        tree.new.session }
     ensures told { IsTold tree.new.session result answer.new }
 {
     let time = Timestamp {

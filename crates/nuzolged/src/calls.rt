@@ -24,7 +24,8 @@ pub extern "C" fn nuz_close(
     fd: u64,
     answer: &mut Answered,
 ) -> u32
-    ensures asked { IsAsked tree.old.session (Ask txn (calls.Close fd)) answer.new.told tree.new.session }
+    ensures asked { IsAsked tree.old.session (Ask txn (calls.Close fd)) answer.new.told
+        tree.new.session }
     ensures told { IsTold tree.new.session result answer.new }
 {
     let told = call(alloc, tree, txn, Call::Close { fd });
@@ -40,7 +41,8 @@ pub extern "C" fn nuz_fstat(
     fd: u64,
     answer: &mut Answered,
 ) -> u32
-    ensures asked { IsAsked tree.old.session (Ask txn (calls.Fstat fd)) answer.new.told tree.new.session }
+    ensures asked { IsAsked tree.old.session (Ask txn (calls.Fstat fd)) answer.new.told
+        tree.new.session }
     ensures told { IsTold tree.new.session result answer.new }
 {
     let told = call(alloc, tree, txn, Call::Fstat { fd });
@@ -57,7 +59,8 @@ pub extern "C" fn nuz_ftruncate(
     len: i64,
     answer: &mut Answered,
 ) -> u32
-    ensures asked { IsAsked tree.old.session (Ask txn (calls.Ftruncate fd len)) answer.new.told tree.new.session }
+    ensures asked { IsAsked tree.old.session (Ask txn (calls.Ftruncate fd len)) answer.new.told
+        tree.new.session }
     ensures told { IsTold tree.new.session result answer.new }
 {
     let told = call(alloc, tree, txn, Call::Ftruncate { fd, len });
@@ -76,7 +79,9 @@ pub extern "C" fn nuz_lseek(
     whence: u32,
     answer: &mut Answered,
 ) -> u32
-    ensures asked { MatchOption (whence_of whence) (IsBad tree.old.session answer.new.told tree.new.session) (λ from. IsAsked tree.old.session (Ask txn (calls.Lseek fd from off)) answer.new.told tree.new.session) }
+    ensures asked { MatchOption (whence_of whence)
+        (IsBad tree.old.session answer.new.told tree.new.session) (λ from. IsAsked tree.old.session
+        (Ask txn (calls.Lseek fd from off)) answer.new.told tree.new.session) }
     ensures told { IsTold tree.new.session result answer.new }
 {
     let told = match whence_of(whence) {
@@ -97,7 +102,8 @@ pub extern "C" fn nuz_write(
     bytes: &[u8],
     answer: &mut Answered,
 ) -> u32
-    ensures asked { IsCallAsked tree.old.session txn (calls.Write fd bytes.now) answer.new.told tree.new.session }
+    ensures asked { IsCallAsked tree.old.session txn (calls.Write fd bytes.now) answer.new.told
+        tree.new.session }
     ensures told { IsTold tree.new.session result answer.new }
 {
     let most = most_of(limits_of(alloc, tree));
@@ -120,7 +126,8 @@ pub extern "C" fn nuz_pwrite(
     off: i64,
     answer: &mut Answered,
 ) -> u32
-    ensures asked { IsCallAsked tree.old.session txn (calls.Pwrite fd off bytes.now) answer.new.told tree.new.session }
+    ensures asked { IsCallAsked tree.old.session txn (calls.Pwrite fd off bytes.now) answer.new.told
+        tree.new.session }
     ensures told { IsTold tree.new.session result answer.new }
 {
     let most = most_at(limits_of(alloc, tree), off);
@@ -142,7 +149,8 @@ pub extern "C" fn nuz_read(
     buffer: &mut [u8],
     answer: &mut Answered,
 ) -> u32
-    ensures asked { IsAsked tree.old.session (Ask txn (calls.Read fd (length buffer.old))) answer.new.told tree.new.session }
+    ensures asked { IsAsked tree.old.session (Ask txn (calls.Read fd (length buffer.old)))
+        answer.new.told tree.new.session }
     ensures bytes { buffer.new ≡ filled_by (data_held tree.new.session) buffer.old }
     ensures told { IsTold tree.new.session result answer.new }
 {
@@ -164,7 +172,8 @@ pub extern "C" fn nuz_pread(
     off: i64,
     answer: &mut Answered,
 ) -> u32
-    ensures asked { IsAsked tree.old.session (Ask txn (calls.Pread fd off (length buffer.old))) answer.new.told tree.new.session }
+    ensures asked { IsAsked tree.old.session (Ask txn (calls.Pread fd off (length buffer.old)))
+        answer.new.told tree.new.session }
     ensures bytes { buffer.new ≡ filled_by (data_held tree.new.session) buffer.old }
     ensures told { IsTold tree.new.session result answer.new }
 {
@@ -174,7 +183,7 @@ pub extern "C" fn nuz_pread(
     tell(alloc, tree, told, answer)
 }
 
-// From where an offset counts, by its number.
+/// Returns the point from which an offset counts, by its number.
 fn whence_of(number: u32) -> Option<Whence>
     ensures { result ≡ whence_of number }
 {

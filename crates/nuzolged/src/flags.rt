@@ -49,14 +49,14 @@ pub(crate) fn opening_of(flags: u32) -> Option<Opening>
     })
 }
 
-// Whether a word has a flag.
+/// Returns whether a word has a flag.
 fn has_flag(flags: u32, flag: u32) -> bool
     ensures { result ≡ has_flag flags flag }
 {
     flags & flag != 0
 }
 
-// The access of a number.
+/// Returns the access of a number.
 fn access_of(number: u32) -> Option<AccessMode>
     ensures { result ≡ access_of number }
 {

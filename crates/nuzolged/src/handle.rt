@@ -6,7 +6,7 @@ ghost use Rattle.ft_session.specs.declared.session.Session.{Session as SessionOf
 ghost use Rattle.ft_session.specs.contracts.session.Session.{the_row};
 ghost use Rattle.nuzolged.specs.Handles.{held};
 
-use ft_loose::Loose;
+use ft_loose::RawBox;
 use ft_session::Session;
 use std::alloc::Global;
 use std::marker::Model;
@@ -36,10 +36,10 @@ impl Handle {
     }
 
     /// A handle of a session.
-    fn of(loose: Loose<Session, Global>) -> Handle
+    fn of(loose: RawBox<Session, Global>) -> Handle
         ensures { result.session ≡ Some loose.value }
     {
-        let Loose { at, alloc } = loose;
+        let RawBox { at, alloc } = loose;
         Handle {
             at: at as *mut u8,
             alloc,
@@ -47,14 +47,14 @@ impl Handle {
     }
 
     /// Returns its contents.
-    fn into_loose(self) -> Option<Loose<Session, Global>>
+    fn into_loose(self) -> Option<RawBox<Session, Global>>
         ensures { option_map (λ loose. loose.value) result ≡ self.session }
     {
         let Handle { at, alloc } = self;
         if at.is_null() {
             return None;
         }
-        Some(Loose {
+        Some(RawBox {
             at: at as *mut Session,
             alloc,
         })
@@ -76,7 +76,7 @@ impl Handle {
     pub(crate) fn put(&mut self, session: Box<Session>)
         ensures { self.new.session ≡ Some session.value }
     {
-        *self = Handle::of(Loose::of(session));
+        *self = Handle::of(RawBox::from_box(session));
     }
 }
 

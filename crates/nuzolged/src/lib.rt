@@ -15,10 +15,10 @@ mod limits;
 mod lines;
 mod listing;
 mod locks;
+mod nuz_answer;
 mod parts;
 mod paths;
 mod pointer;
-mod told;
 mod transactions;
 mod trees;
 mod waits;
@@ -34,13 +34,13 @@ pub use handle::Handle;
 pub use limits::Limits;
 pub use lines::{nuz_reply, nuz_request};
 pub use locks::nuz_locks;
+pub use nuz_answer::NuzAnswer;
 pub use parts::{nuz_blocker, nuz_bytes, nuz_name};
 pub use paths::{
     nuz_link, nuz_list, nuz_list_all, nuz_lstat, nuz_mkdir, nuz_open, nuz_readlink, nuz_rename,
     nuz_rmdir, nuz_stat, nuz_symlink, nuz_truncate, nuz_unlink,
 };
 pub use pointer::TreePointer;
-pub use told::Told;
 pub use transactions::{
     nuz_abort, nuz_begin, nuz_begin_sub, nuz_cancel, nuz_checkpoint, nuz_commit, nuz_retry,
     nuz_undo,

@@ -22,7 +22,7 @@ pub struct Limits {
     pub reserved: [u64; 3],
 }
 
-/// The same limits, as a core takes them, if it has no others.
+/// Returns these limits as a core takes them. Returns `None` if a reserved number is not 0.
 pub(crate) fn limits_given(limits: &Limits) -> Option<CoreLimits>
     ensures { result ≡ limits_given limits.now }
 {
@@ -38,7 +38,7 @@ pub(crate) fn limits_given(limits: &Limits) -> Option<CoreLimits>
     })
 }
 
-// Whether nothing is asked of limits to come.
+/// Returns whether no limit to come is requested: the reserved numbers are all 0.
 fn is_zero(reserved: &[u64; 3]) -> bool
     ensures { result ≡ is_zero reserved.now }
 {

@@ -1,14 +1,14 @@
 // Lines of a script, and replies as text.
 ghost use Rattle.std.specs.Prelude.{◌≡◌};
-ghost use Rattle.ft_replies.specs.Requests.{meaning_of};
+ghost use Rattle.ft_line.specs.Requests.{parse_line};
 ghost use Rattle.nuzolged.specs.Answers.{IsTold, IsToldWith};
 ghost use Rattle.nuzolged.specs.Lines.{IsLineAsked, IsLineTold, IsReplied, HasReplied, IsReplyTold, IsReplySize, IsSizeOfReply};
 
 use crate::answered::{Answered, tell, tell_with};
 use crate::handle::Handle;
-use crate::told::{BAD, CLOSED, MEMORY, Told, told_of};
+use crate::nuz_answer::{BAD, CLOSED, MEMORY, NuzAnswer, told_of};
 use ft_base::Memory;
-use ft_session::{Last, LineFault, Session};
+use ft_session::{LastAnswer, LineFault, Session};
 use std::alloc::Global;
 
 /// The length of a reply that there was no memory for.
@@ -25,8 +25,10 @@ pub extern "C" fn nuz_request(
     buffer: &mut [u8],
     answer: &mut Answered,
 ) -> u32
-    ensures asked { IsLineAsked tree.old.session (meaning_of line.now) answer.new.told tree.new.session }
-    ensures reply { IsReplyTold tree.new.session answer.new.told.code answer.new.reply buffer.old buffer.new }
+    ensures asked { IsLineAsked tree.old.session (parse_line line.now) answer.new.told
+        tree.new.session }
+    ensures reply { IsReplyTold tree.new.session answer.new.told.code answer.new.reply buffer.old
+        buffer.new }
     ensures told { IsToldWith answer.new.reply tree.new.session result answer.new }
 {
     let told = request(alloc, tree, line);
@@ -51,22 +53,23 @@ pub extern "C" fn nuz_reply(
     tell(alloc, tree, told, answer)
 }
 
-// Carries out one line.
-fn request(alloc: Global, tree: &mut Handle, line: &[u8]) -> Told
-    ensures { IsLineAsked tree.old.session (meaning_of line.now) result tree.new.session }
+/// Carries out one line on a tree.
+fn request(alloc: Global, tree: &mut Handle, line: &[u8]) -> NuzAnswer
+    ensures { IsLineAsked tree.old.session (parse_line line.now) result tree.new.session }
 {
     match tree.take(alloc) {
-        None => Told::of(CLOSED, 0, 0),
+        None => NuzAnswer::of(CLOSED, 0, 0),
         Some(session) => {
             let mut session = session;
-            let told = carry_out(alloc, &mut session, line);
+            let told = execute(alloc, &mut session, line);
             tree.put(session);
             told
         }
     }
 }
 
-// Copies the reply to a line that has come to a code, if it has one: how many bytes it has.
+/// Copies the reply to a line that resulted in a code, if it has one. Returns how many bytes it
+/// has.
 fn told_reply(alloc: Global, tree: &mut Handle, code: u32, buffer: &mut [u8]) -> u64
     ensures same { tree.new.session ≡ tree.old.session }
     ensures reply { IsReplyTold tree.old.session code result buffer.old buffer.new }
@@ -77,7 +80,7 @@ fn told_reply(alloc: Global, tree: &mut Handle, code: u32, buffer: &mut [u8]) ->
     reply_size(alloc, tree, buffer)
 }
 
-// Copies the reply to the last request: how many bytes it has.
+/// Copies the reply to the last request, and returns how many bytes it has.
 fn reply_size(alloc: Global, tree: &mut Handle, buffer: &mut [u8]) -> u64
     ensures same { tree.new.session ≡ tree.old.session }
     ensures reply { IsReplySize tree.old.session result buffer.old buffer.new }
@@ -92,8 +95,8 @@ fn reply_size(alloc: Global, tree: &mut Handle, buffer: &mut [u8]) -> u64
     }
 }
 
-// Copies a reply: how many bytes it has.
-fn size_of_reply(alloc: Global, last: &Last, buffer: &mut [u8]) -> u64
+/// Copies a reply, and returns how many bytes it has.
+fn size_of_reply(alloc: Global, last: &LastAnswer, buffer: &mut [u8]) -> u64
     ensures { IsSizeOfReply last.now result buffer.old buffer.new }
 {
     match last.copy_reply(alloc, buffer) {
@@ -102,13 +105,13 @@ fn size_of_reply(alloc: Global, last: &Last, buffer: &mut [u8]) -> u64
     }
 }
 
-// Copies the reply to the last request, and returns how many bytes it has.
-fn copy_reply(alloc: Global, tree: &mut Handle, buffer: &mut [u8]) -> Told
+/// Copies the reply to the last request, and returns how many bytes it has.
+fn copy_reply(alloc: Global, tree: &mut Handle, buffer: &mut [u8]) -> NuzAnswer
     ensures same { tree.new.session ≡ tree.old.session }
     ensures reply { IsReplied tree.old.session result buffer.old buffer.new }
 {
     match tree.take(alloc) {
-        None => Told::of(CLOSED, 0, 0),
+        None => NuzAnswer::of(CLOSED, 0, 0),
         Some(session) => {
             let told = reply_of(alloc, &session.last, buffer);
             tree.put(session);
@@ -117,23 +120,23 @@ fn copy_reply(alloc: Global, tree: &mut Handle, buffer: &mut [u8]) -> Told
     }
 }
 
-// Carries out one line.
-fn carry_out(alloc: Global, session: &mut Session, line: &[u8]) -> Told
-    ensures { IsLineTold session.old (meaning_of line.now) result session.new }
+/// Carries out one line in a session.
+fn execute(alloc: Global, session: &mut Session, line: &[u8]) -> NuzAnswer
+    ensures { IsLineTold session.old (parse_line line.now) result session.new }
 {
-    match session.request(alloc, line) {
+    match session.run_line(alloc, line) {
         Ok(()) => told_of(&session.last),
-        Err(LineFault::Bad) => Told::of(BAD, 0, 0),
-        Err(LineFault::Memory) => Told::of(MEMORY, 0, 0),
+        Err(LineFault::Bad) => NuzAnswer::of(BAD, 0, 0),
+        Err(LineFault::Memory) => NuzAnswer::of(MEMORY, 0, 0),
     }
 }
 
-// The reply.
-fn reply_of(alloc: Global, last: &Last, buffer: &mut [u8]) -> Told
+/// Copies a reply, and returns how many bytes it has, as an answer.
+fn reply_of(alloc: Global, last: &LastAnswer, buffer: &mut [u8]) -> NuzAnswer
     ensures { HasReplied last.now result buffer.old buffer.new }
 {
     match last.copy_reply(alloc, buffer) {
-        Ok(size) => Told::of_size(size),
-        Err(Memory) => Told::of(MEMORY, 0, 0),
+        Ok(size) => NuzAnswer::of_size(size),
+        Err(Memory) => NuzAnswer::of(MEMORY, 0, 0),
     }
 }

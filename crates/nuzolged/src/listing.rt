@@ -32,7 +32,7 @@ pub(crate) fn listing_size(names: &[(Name, Kind)]) -> u64
     size
 }
 
-// Copies a name after what has been copied: how many bytes that is.
+/// Copies a name after what has been copied, and returns how many bytes there are then.
 fn copy_entry(name: &Name, kind: Kind, buffer: &mut [u8], at: usize) -> usize
     ensures { GoesOn (entry_of (name.now, kind)) at buffer.old result buffer.new }
 {
@@ -41,7 +41,7 @@ fn copy_entry(name: &Name, kind: Kind, buffer: &mut [u8], at: usize) -> usize
     copy_behind(&[0], buffer, at)
 }
 
-// Copies bytes after what has been copied: how many bytes that is.
+/// Copies bytes after what has been copied, and returns how many bytes there are then.
 fn copy_behind(bytes: &[u8], buffer: &mut [u8], at: usize) -> usize
     ensures { GoesOn bytes.now at buffer.old result buffer.new }
 {
@@ -52,14 +52,14 @@ fn copy_behind(bytes: &[u8], buffer: &mut [u8], at: usize) -> usize
     at.saturating_add(bytes.len())
 }
 
-// How many bytes a buffer has room for.
+/// Returns how many bytes a buffer has room for.
 fn room_of(buffer: &[u8]) -> usize
     ensures { result ≡ length buffer.now }
 {
     buffer.len()
 }
 
-// The number of a kind, as a byte.
+/// Returns the number of a kind, as a byte.
 fn kind_byte(kind: Kind) -> u8
     ensures { result ≡ kind_number kind }
 {

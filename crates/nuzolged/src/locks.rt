@@ -5,10 +5,10 @@ ghost use Rattle.nuzolged.specs.Locks.{AreLocksTold, HasLocks, IsTextOfLocks};
 
 use crate::answered::{Answered, tell};
 use crate::handle::Handle;
-use crate::told::{CLOSED, MEMORY, Told};
+use crate::nuz_answer::{CLOSED, MEMORY, NuzAnswer};
 use ft_base::Memory;
 use ft_core::{Core, TxnId};
-use ft_replies::{AttributeLocksText, LocksText};
+use ft_line::{AttributeLocksText, LocksText};
 use ft_session::copy_into;
 use std::alloc::Global;
 
@@ -30,13 +30,13 @@ pub extern "C" fn nuz_locks(
     tell(alloc, tree, told, answer)
 }
 
-// Tells the locks of a transaction.
-fn locks(alloc: Global, tree: &mut Handle, txn: TxnId, buffer: &mut [u8]) -> Told
+/// Copies the text of the locks of a transaction of a tree.
+fn locks(alloc: Global, tree: &mut Handle, txn: TxnId, buffer: &mut [u8]) -> NuzAnswer
     ensures same { tree.new.session ≡ tree.old.session }
     ensures told { AreLocksTold tree.old.session txn result buffer.old buffer.new }
 {
     match tree.take(alloc) {
-        None => Told::of(CLOSED, 0, 0),
+        None => NuzAnswer::of(CLOSED, 0, 0),
         Some(session) => {
             let told = tell_locks(alloc, &session.core, txn, buffer);
             tree.put(session);
@@ -45,17 +45,17 @@ fn locks(alloc: Global, tree: &mut Handle, txn: TxnId, buffer: &mut [u8]) -> Tol
     }
 }
 
-// The same of a core.
-fn tell_locks(alloc: Global, core: &Core, txn: TxnId, buffer: &mut [u8]) -> Told
+/// Copies the text of the locks of a transaction of a core, and returns how many bytes it has.
+fn tell_locks(alloc: Global, core: &Core, txn: TxnId, buffer: &mut [u8]) -> NuzAnswer
     ensures { HasLocks core.now.state txn result buffer.old buffer.new }
 {
     match text_of_locks(alloc, core, txn) {
-        Ok(text) => Told::of_size(copy_into(text.as_bytes(), buffer)),
-        Err(Memory) => Told::of(MEMORY, 0, 0),
+        Ok(text) => NuzAnswer::of_size(copy_into(text.as_bytes(), buffer)),
+        Err(Memory) => NuzAnswer::of(MEMORY, 0, 0),
     }
 }
 
-// The text of the locks of a transaction.
+/// Returns the text of the locks of a transaction.
 fn text_of_locks(alloc: Global, core: &Core, txn: TxnId) -> Result<String, Memory>
     ensures { IfOk result (λ text. IsTextOfLocks core.now.state txn (string_bytes text)) }
 {

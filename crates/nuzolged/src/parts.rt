@@ -7,10 +7,10 @@ ghost use Rattle.nuzolged.specs.Parts.{name_bytes, name_told, name_at, name_byte
 use crate::answered::{Answered, tell};
 use crate::handle::Handle;
 use crate::listing::copy_listing;
-use crate::told::{BAD, CLOSED, Told};
+use crate::nuz_answer::{BAD, CLOSED, NuzAnswer};
 use ft_calls::Reply;
 use ft_core::Answer;
-use ft_session::{Last, copy_into};
+use ft_session::{LastAnswer, copy_into};
 use std::alloc::Global;
 
 /// Copies a name of the list that the last call has returned, counted from 0. The answer holds its
@@ -68,13 +68,13 @@ pub extern "C" fn nuz_bytes(
 
 /// Copies the bytes that the last call has read, or the names that it lists, and returns how many
 /// bytes there are.
-pub(crate) fn copy_data(alloc: Global, tree: &mut Handle, buffer: &mut [u8]) -> Told
+pub(crate) fn copy_data(alloc: Global, tree: &mut Handle, buffer: &mut [u8]) -> NuzAnswer
     ensures same { tree.new.session ≡ tree.old.session }
     ensures told { result ≡ data_told tree.old.session }
     ensures bytes { buffer.new ≡ filled_by (data_held tree.old.session) buffer.old }
 {
     match tree.take(alloc) {
-        None => Told::of(CLOSED, 0, 0),
+        None => NuzAnswer::of(CLOSED, 0, 0),
         Some(session) => {
             let told = data_of(&session.last, buffer);
             tree.put(session);
@@ -83,14 +83,14 @@ pub(crate) fn copy_data(alloc: Global, tree: &mut Handle, buffer: &mut [u8]) -> 
     }
 }
 
-// Copies a name of the list, and returns its kind and its length.
-fn copy_name(alloc: Global, tree: &mut Handle, index: usize, buffer: &mut [u8]) -> Told
+/// Copies a name of the list, and returns its kind and its length.
+fn copy_name(alloc: Global, tree: &mut Handle, index: usize, buffer: &mut [u8]) -> NuzAnswer
     ensures same { tree.new.session ≡ tree.old.session }
     ensures told { result ≡ name_told tree.old.session index }
     ensures bytes { buffer.new ≡ filled_by (name_bytes tree.old.session index) buffer.old }
 {
     match tree.take(alloc) {
-        None => Told::of(CLOSED, 0, 0),
+        None => NuzAnswer::of(CLOSED, 0, 0),
         Some(session) => {
             let told = name_at(&session.last, index, buffer);
             tree.put(session);
@@ -99,13 +99,13 @@ fn copy_name(alloc: Global, tree: &mut Handle, index: usize, buffer: &mut [u8]) 
     }
 }
 
-// Tells a transaction for which the call waits.
-fn blocker(alloc: Global, tree: &mut Handle, index: usize) -> Told
+/// Returns a transaction for which the call waits.
+fn blocker(alloc: Global, tree: &mut Handle, index: usize) -> NuzAnswer
     ensures same { tree.new.session ≡ tree.old.session }
     ensures told { result ≡ blocker_told tree.old.session index }
 {
     match tree.take(alloc) {
-        None => Told::of(CLOSED, 0, 0),
+        None => NuzAnswer::of(CLOSED, 0, 0),
         Some(session) => {
             let told = blocker_at(&session.last, index);
             tree.put(session);
@@ -114,48 +114,48 @@ fn blocker(alloc: Global, tree: &mut Handle, index: usize) -> Told
     }
 }
 
-// A name of the list.
-fn name_at(last: &Last, index: usize, buffer: &mut [u8]) -> Told
+/// Copies a name of the list, and returns its kind and its length.
+fn name_at(last: &LastAnswer, index: usize, buffer: &mut [u8]) -> NuzAnswer
     ensures told { result ≡ name_at last.now index }
     ensures bytes { buffer.new ≡ filled_by (name_bytes_at last.now index) buffer.old }
 {
     match last.names().get(index) {
-        None => Told::of(BAD, 0, 0),
+        None => NuzAnswer::of(BAD, 0, 0),
         Some((name, kind)) => {
             let size = copy_into(name.as_bytes(), buffer);
-            Told::of_name(*kind, size)
+            NuzAnswer::of_name(*kind, size)
         }
     }
 }
 
-// A transaction for which the call waits.
-fn blocker_at(last: &Last, index: usize) -> Told
+/// Returns a transaction for which the call waits.
+fn blocker_at(last: &LastAnswer, index: usize) -> NuzAnswer
     ensures { result ≡ blocker_at last.now index }
 {
     match last.blockers().get(index) {
-        None => Told::of(BAD, 0, 0),
-        Some(txn) => Told::of(0, 0, txn.0),
+        None => NuzAnswer::of(BAD, 0, 0),
+        Some(txn) => NuzAnswer::of(0, 0, txn.0),
     }
 }
 
-// The bytes that were read, or the names that were listed.
-fn data_of(last: &Last, buffer: &mut [u8]) -> Told
+/// Copies the bytes that were read, or the names that were listed, and returns their count.
+fn data_of(last: &LastAnswer, buffer: &mut [u8]) -> NuzAnswer
     ensures told { result ≡ data_count (data_in last.now) }
     ensures bytes { buffer.new ≡ filled_by (data_in last.now) buffer.old }
 {
     match last {
-        Last::Answer(
+        LastAnswer::Answer(
             Answer::Granted {
                 stamp: _,
                 reply: Reply::Names(names),
             },
-        ) => Told::of_size(copy_listing(names.as_slice(), buffer)),
-        Last::Answer(
+        ) => NuzAnswer::of_size(copy_listing(names.as_slice(), buffer)),
+        LastAnswer::Answer(
             Answer::Granted {
                 stamp: _,
                 reply: Reply::Bytes(bytes),
             },
-        ) => Told::of_size(copy_into(bytes.as_slice(), buffer)),
-        _ => Told::of(BAD, 0, 0),
+        ) => NuzAnswer::of_size(copy_into(bytes.as_slice(), buffer)),
+        _ => NuzAnswer::of(BAD, 0, 0),
     }
 }

@@ -11,12 +11,12 @@ ghost use Rattle.nuzolged.specs.Reads.{read_call};
 
 use crate::answered::{Answered, tell};
 use crate::asking::{
-    Unasked, bad_argument, call, given_of, mode_of, path_of, paths_of, refuse, turn_away,
+    BadArgument, bad_argument, call, given_of, mode_of, path_of, paths_of, refuse, reject,
 };
 use crate::flags::{Opening, opening_of};
 use crate::handle::Handle;
+use crate::nuz_answer::NuzAnswer;
 use crate::parts::copy_data;
-use crate::told::Told;
 use ft_calls::Call;
 use ft_path::FilePath;
 use std::alloc::Global;
@@ -31,13 +31,14 @@ pub extern "C" fn nuz_mkdir(
     mode: u32,
     answer: &mut Answered,
 ) -> u32
-    ensures asked { IsCalled (has_nul path.now) tree.old.session txn (calls.Mkdir path.now (given_of mode)) answer.new.told tree.new.session }
+    ensures asked { IsCalled (has_nul path.now) tree.old.session txn
+        (calls.Mkdir path.now (given_of mode)) answer.new.told tree.new.session }
     ensures told { IsTold tree.new.session result answer.new }
 {
     let mode = given_of(mode).map(mode_of);
     let told = match path_of(alloc, path) {
         Ok(path) => call(alloc, tree, txn, Call::Mkdir { path, mode }),
-        Err(why) => turn_away(alloc, tree, txn, why),
+        Err(why) => reject(alloc, tree, txn, why),
     };
     tell(alloc, tree, told, answer)
 }
@@ -51,12 +52,13 @@ pub extern "C" fn nuz_rmdir(
     path: &[u8],
     answer: &mut Answered,
 ) -> u32
-    ensures asked { IsCalled (has_nul path.now) tree.old.session txn (calls.Rmdir path.now) answer.new.told tree.new.session }
+    ensures asked { IsCalled (has_nul path.now) tree.old.session txn (calls.Rmdir path.now)
+        answer.new.told tree.new.session }
     ensures told { IsTold tree.new.session result answer.new }
 {
     let told = match path_of(alloc, path) {
         Ok(path) => call(alloc, tree, txn, Call::Rmdir { path }),
-        Err(why) => turn_away(alloc, tree, txn, why),
+        Err(why) => reject(alloc, tree, txn, why),
     };
     tell(alloc, tree, told, answer)
 }
@@ -70,12 +72,13 @@ pub extern "C" fn nuz_list(
     path: &[u8],
     answer: &mut Answered,
 ) -> u32
-    ensures asked { IsCalled (has_nul path.now) tree.old.session txn (calls.List path.now) answer.new.told tree.new.session }
+    ensures asked { IsCalled (has_nul path.now) tree.old.session txn (calls.List path.now)
+        answer.new.told tree.new.session }
     ensures told { IsTold tree.new.session result answer.new }
 {
     let told = match path_of(alloc, path) {
         Ok(path) => call(alloc, tree, txn, Call::List { path }),
-        Err(why) => turn_away(alloc, tree, txn, why),
+        Err(why) => reject(alloc, tree, txn, why),
     };
     tell(alloc, tree, told, answer)
 }
@@ -92,8 +95,10 @@ pub extern "C" fn nuz_list_all(
     buffer: &mut [u8],
     answer: &mut Answered,
 ) -> u32
-    ensures asked { IsCalled (has_nul path.now) tree.old.session txn (calls.List path.now) answer.new.told tree.new.session }
-    ensures names { buffer.new ≡ filled_by (cond (has_nul path.now) None (data_held tree.new.session)) buffer.old }
+    ensures asked { IsCalled (has_nul path.now) tree.old.session txn (calls.List path.now)
+        answer.new.told tree.new.session }
+    ensures names { buffer.new
+        ≡ filled_by (cond (has_nul path.now) None (data_held tree.new.session)) buffer.old }
     ensures told { IsTold tree.new.session result answer.new }
 {
     let told = read_path(alloc, tree, txn, path, Reads::Names, buffer);
@@ -109,12 +114,13 @@ pub extern "C" fn nuz_stat(
     path: &[u8],
     answer: &mut Answered,
 ) -> u32
-    ensures asked { IsCalled (has_nul path.now) tree.old.session txn (calls.Stat path.now) answer.new.told tree.new.session }
+    ensures asked { IsCalled (has_nul path.now) tree.old.session txn (calls.Stat path.now)
+        answer.new.told tree.new.session }
     ensures told { IsTold tree.new.session result answer.new }
 {
     let told = match path_of(alloc, path) {
         Ok(path) => call(alloc, tree, txn, Call::Stat { path }),
-        Err(why) => turn_away(alloc, tree, txn, why),
+        Err(why) => reject(alloc, tree, txn, why),
     };
     tell(alloc, tree, told, answer)
 }
@@ -128,12 +134,13 @@ pub extern "C" fn nuz_unlink(
     path: &[u8],
     answer: &mut Answered,
 ) -> u32
-    ensures asked { IsCalled (has_nul path.now) tree.old.session txn (calls.Unlink path.now) answer.new.told tree.new.session }
+    ensures asked { IsCalled (has_nul path.now) tree.old.session txn (calls.Unlink path.now)
+        answer.new.told tree.new.session }
     ensures told { IsTold tree.new.session result answer.new }
 {
     let told = match path_of(alloc, path) {
         Ok(path) => call(alloc, tree, txn, Call::Unlink { path }),
-        Err(why) => turn_away(alloc, tree, txn, why),
+        Err(why) => reject(alloc, tree, txn, why),
     };
     tell(alloc, tree, told, answer)
 }
@@ -148,12 +155,13 @@ pub extern "C" fn nuz_truncate(
     len: i64,
     answer: &mut Answered,
 ) -> u32
-    ensures asked { IsCalled (has_nul path.now) tree.old.session txn (calls.Truncate len path.now) answer.new.told tree.new.session }
+    ensures asked { IsCalled (has_nul path.now) tree.old.session txn (calls.Truncate len path.now)
+        answer.new.told tree.new.session }
     ensures told { IsTold tree.new.session result answer.new }
 {
     let told = match path_of(alloc, path) {
         Ok(path) => call(alloc, tree, txn, Call::Truncate { len, path }),
-        Err(why) => turn_away(alloc, tree, txn, why),
+        Err(why) => reject(alloc, tree, txn, why),
     };
     tell(alloc, tree, told, answer)
 }
@@ -168,12 +176,14 @@ pub extern "C" fn nuz_link(
     to: &[u8],
     answer: &mut Answered,
 ) -> u32
-    ensures asked { IsCalled (has_nul from.now || has_nul to.now) tree.old.session txn (calls.Link from.now to.now) answer.new.told tree.new.session }
+    ensures asked { IsCalled (has_nul from.now
+        || has_nul to.now) tree.old.session txn (calls.Link from.now to.now) answer.new.told
+        tree.new.session }
     ensures told { IsTold tree.new.session result answer.new }
 {
     let told = match paths_of(alloc, from, to) {
         Ok((old, new)) => call(alloc, tree, txn, Call::Link { old, new }),
-        Err(why) => turn_away(alloc, tree, txn, why),
+        Err(why) => reject(alloc, tree, txn, why),
     };
     tell(alloc, tree, told, answer)
 }
@@ -188,12 +198,14 @@ pub extern "C" fn nuz_rename(
     to: &[u8],
     answer: &mut Answered,
 ) -> u32
-    ensures asked { IsCalled (has_nul from.now || has_nul to.now) tree.old.session txn (calls.Rename from.now to.now) answer.new.told tree.new.session }
+    ensures asked { IsCalled (has_nul from.now
+        || has_nul to.now) tree.old.session txn (calls.Rename from.now to.now) answer.new.told
+        tree.new.session }
     ensures told { IsTold tree.new.session result answer.new }
 {
     let told = match paths_of(alloc, from, to) {
         Ok((old, new)) => call(alloc, tree, txn, Call::Rename { old, new }),
-        Err(why) => turn_away(alloc, tree, txn, why),
+        Err(why) => reject(alloc, tree, txn, why),
     };
     tell(alloc, tree, told, answer)
 }
@@ -208,12 +220,14 @@ pub extern "C" fn nuz_symlink(
     path: &[u8],
     answer: &mut Answered,
 ) -> u32
-    ensures asked { IsCalled (has_nul target.now || has_nul path.now) tree.old.session txn (calls.Symlink target.now path.now) answer.new.told tree.new.session }
+    ensures asked { IsCalled (has_nul target.now
+        || has_nul path.now) tree.old.session txn (calls.Symlink target.now path.now)
+        answer.new.told tree.new.session }
     ensures told { IsTold tree.new.session result answer.new }
 {
     let told = match paths_of(alloc, target, path) {
         Ok((target, path)) => call(alloc, tree, txn, Call::Symlink { target, path }),
-        Err(why) => turn_away(alloc, tree, txn, why),
+        Err(why) => reject(alloc, tree, txn, why),
     };
     tell(alloc, tree, told, answer)
 }
@@ -229,8 +243,10 @@ pub extern "C" fn nuz_readlink(
     buffer: &mut [u8],
     answer: &mut Answered,
 ) -> u32
-    ensures asked { IsCalled (has_nul path.now) tree.old.session txn (calls.Readlink path.now) answer.new.told tree.new.session }
-    ensures bytes { buffer.new ≡ filled_by (cond (has_nul path.now) None (data_held tree.new.session)) buffer.old }
+    ensures asked { IsCalled (has_nul path.now) tree.old.session txn (calls.Readlink path.now)
+        answer.new.told tree.new.session }
+    ensures bytes { buffer.new
+        ≡ filled_by (cond (has_nul path.now) None (data_held tree.new.session)) buffer.old }
     ensures told { IsTold tree.new.session result answer.new }
 {
     let told = read_path(alloc, tree, txn, path, Reads::Target, buffer);
@@ -246,12 +262,13 @@ pub extern "C" fn nuz_lstat(
     path: &[u8],
     answer: &mut Answered,
 ) -> u32
-    ensures asked { IsCalled (has_nul path.now) tree.old.session txn (calls.Lstat path.now) answer.new.told tree.new.session }
+    ensures asked { IsCalled (has_nul path.now) tree.old.session txn (calls.Lstat path.now)
+        answer.new.told tree.new.session }
     ensures told { IsTold tree.new.session result answer.new }
 {
     let told = match path_of(alloc, path) {
         Ok(path) => call(alloc, tree, txn, Call::Lstat { path }),
-        Err(why) => turn_away(alloc, tree, txn, why),
+        Err(why) => reject(alloc, tree, txn, why),
     };
     tell(alloc, tree, told, answer)
 }
@@ -268,7 +285,10 @@ pub extern "C" fn nuz_open(
     mode: u32,
     answer: &mut Answered,
 ) -> u32
-    ensures asked { MatchOption (opening_of flags) (IsBad tree.old.session answer.new.told tree.new.session) (λ opening. IsCalled (has_nul path.now) tree.old.session txn (open_call path.now opening (given_of mode)) answer.new.told tree.new.session) }
+    ensures asked { MatchOption (opening_of flags)
+        (IsBad tree.old.session answer.new.told tree.new.session) (λ opening. IsCalled
+        (has_nul path.now) tree.old.session txn (open_call path.now opening (given_of mode))
+        answer.new.told tree.new.session) }
     ensures told { IsTold tree.new.session result answer.new }
 {
     let told = match opening_of(flags) {
@@ -278,7 +298,7 @@ pub extern "C" fn nuz_open(
     tell(alloc, tree, told, answer)
 }
 
-// A kind of read of a path into a buffer.
+/// A kind of read of a path into a buffer.
 #[derive(Clone, Copy, Debug, PartialEq, Eq)]
 enum Reads {
     // The names of a directory.
@@ -287,7 +307,7 @@ enum Reads {
     Target,
 }
 
-// The call that reads it.
+/// Returns the call that reads a path in this way.
 fn read_call(reads: Reads, path: FilePath) -> Call
     ensures { result ≡ read_call reads path }
 {
@@ -297,7 +317,7 @@ fn read_call(reads: Reads, path: FilePath) -> Call
     }
 }
 
-// Reads the names of a directory, or the target of a symbolic link, into a buffer.
+/// Reads the names of a directory, or the target of a symbolic link, into a buffer.
 fn read_path(
     alloc: Global,
     tree: &mut Handle,
@@ -305,20 +325,22 @@ fn read_path(
     path: &[u8],
     reads: Reads,
     buffer: &mut [u8],
-) -> Told
-    ensures asked { IsCalled (has_nul path.now) tree.old.session txn (read_call reads path.now) result tree.new.session }
-    ensures bytes { buffer.new ≡ filled_by (cond (has_nul path.now) None (data_held tree.new.session)) buffer.old }
+) -> NuzAnswer
+    ensures asked { IsCalled (has_nul path.now) tree.old.session txn (read_call reads path.now)
+        result tree.new.session }
+    ensures bytes { buffer.new
+        ≡ filled_by (cond (has_nul path.now) None (data_held tree.new.session)) buffer.old }
 {
     let told = match path_of(alloc, path) {
         Ok(path) => call(alloc, tree, txn, read_call(reads, path)),
-        Err(Unasked::Memory) => refuse(alloc, tree, txn),
-        Err(Unasked::Bad) => return bad_argument(alloc, tree),
+        Err(BadArgument::Memory) => refuse(alloc, tree, txn),
+        Err(BadArgument::Bad) => return bad_argument(alloc, tree),
     };
     copy_data(alloc, tree, buffer);
     told
 }
 
-// Opens a file, with a mode if one is given.
+/// Opens a file, with a mode if one is given.
 fn open(
     alloc: Global,
     tree: &mut Handle,
@@ -326,8 +348,9 @@ fn open(
     path: &[u8],
     opening: Opening,
     mode: Option<u32>,
-) -> Told
-    ensures { IsCalled (has_nul path.now) tree.old.session txn (open_call path.now opening mode) result tree.new.session }
+) -> NuzAnswer
+    ensures { IsCalled (has_nul path.now) tree.old.session txn (open_call path.now opening mode)
+        result tree.new.session }
 {
     match path_of(alloc, path) {
         Ok(path) => {
@@ -342,6 +365,6 @@ fn open(
             };
             call(alloc, tree, txn, opens)
         }
-        Err(why) => turn_away(alloc, tree, txn, why),
+        Err(why) => reject(alloc, tree, txn, why),
     }
 }

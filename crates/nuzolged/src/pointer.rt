@@ -7,7 +7,7 @@ ghost use Rattle.nuzolged.specs.contracts.handle.Handle.{the_row};
 ghost use Rattle.nuzolged.specs.Handles.{held};
 
 use crate::handle::Handle;
-use ft_loose::Loose;
+use ft_loose::RawBox;
 use std::alloc::Global;
 use std::marker::Model;
 
@@ -35,10 +35,10 @@ impl TreePointer {
     }
 
     /// The pointer of a handle.
-    fn of(loose: Loose<Handle, Global>) -> TreePointer
+    fn of(loose: RawBox<Handle, Global>) -> TreePointer
         ensures { result.tree ≡ Some loose.value }
     {
-        let Loose { at, alloc } = loose;
+        let RawBox { at, alloc } = loose;
         TreePointer {
             at: at as *mut u8,
             alloc,
@@ -46,14 +46,14 @@ impl TreePointer {
     }
 
     /// Returns the handle to which it leads.
-    fn into_loose(self) -> Option<Loose<Handle, Global>>
+    fn into_loose(self) -> Option<RawBox<Handle, Global>>
         ensures { option_map (λ loose. loose.value) result ≡ self.tree }
     {
         let TreePointer { at, alloc } = self;
         if at.is_null() {
             return None;
         }
-        Some(Loose {
+        Some(RawBox {
             at: at as *mut Handle,
             alloc,
         })
@@ -63,7 +63,7 @@ impl TreePointer {
     pub(crate) fn to(handle: Box<Handle>) -> TreePointer
         ensures { result.tree ≡ Some handle.value }
     {
-        TreePointer::of(Loose::of(handle))
+        TreePointer::of(RawBox::from_box(handle))
     }
 
     /// Puts a pointer in the place of this one, which is not looked at.

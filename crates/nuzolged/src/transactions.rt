@@ -8,7 +8,7 @@ ghost use Rattle.nuzolged.specs.Numbers.{no_memory};
 ghost use Rattle.nuzolged.specs.Parts.{data_held};
 
 use crate::answered::{Answered, tell};
-use crate::asking::{ask, checkpoint};
+use crate::asking::{answer_request, checkpoint};
 use crate::handle::Handle;
 use crate::parts::copy_data;
 use ft_core::{Request, TxnId};
@@ -20,7 +20,7 @@ pub extern "C" fn nuz_begin(alloc: Global, tree: &mut Handle, answer: &mut Answe
     ensures asked { IsAsked tree.old.session Begin answer.new.told tree.new.session }
     ensures told { IsTold tree.new.session result answer.new }
 {
-    let told = ask(alloc, tree, Request::Begin);
+    let told = answer_request(alloc, tree, Request::Begin);
     tell(alloc, tree, told, answer)
 }
 
@@ -35,7 +35,7 @@ pub extern "C" fn nuz_begin_sub(
     ensures asked { IsAsked tree.old.session (Sub txn) answer.new.told tree.new.session }
     ensures told { IsTold tree.new.session result answer.new }
 {
-    let told = ask(alloc, tree, Request::Sub(TxnId(txn)));
+    let told = answer_request(alloc, tree, Request::Sub(TxnId(txn)));
     tell(alloc, tree, told, answer)
 }
 
@@ -50,7 +50,7 @@ pub extern "C" fn nuz_commit(
     ensures asked { IsAsked tree.old.session (Commit txn) answer.new.told tree.new.session }
     ensures told { IsTold tree.new.session result answer.new }
 {
-    let told = ask(alloc, tree, Request::Commit(TxnId(txn)));
+    let told = answer_request(alloc, tree, Request::Commit(TxnId(txn)));
     tell(alloc, tree, told, answer)
 }
 
@@ -66,7 +66,7 @@ pub extern "C" fn nuz_abort(
     ensures asked { IsAsked tree.old.session (Abort txn) answer.new.told tree.new.session }
     ensures told { IsTold tree.new.session result answer.new }
 {
-    let told = ask(alloc, tree, Request::Abort(TxnId(txn)));
+    let told = answer_request(alloc, tree, Request::Abort(TxnId(txn)));
     tell(alloc, tree, told, answer)
 }
 
@@ -77,7 +77,7 @@ pub extern "C" fn nuz_undo(alloc: Global, tree: &mut Handle, txn: u64, answer: &
     ensures asked { IsAsked tree.old.session (Undo txn) answer.new.told tree.new.session }
     ensures told { IsTold tree.new.session result answer.new }
 {
-    let told = ask(alloc, tree, Request::Undo(TxnId(txn)));
+    let told = answer_request(alloc, tree, Request::Undo(TxnId(txn)));
     tell(alloc, tree, told, answer)
 }
 
@@ -92,7 +92,7 @@ pub extern "C" fn nuz_cancel(
     ensures asked { IsAsked tree.old.session (Drop txn) answer.new.told tree.new.session }
     ensures told { IsTold tree.new.session result answer.new }
 {
-    let told = ask(alloc, tree, Request::Drop(TxnId(txn)));
+    let told = answer_request(alloc, tree, Request::Drop(TxnId(txn)));
     tell(alloc, tree, told, answer)
 }
 
@@ -110,7 +110,7 @@ pub extern "C" fn nuz_retry(
     ensures bytes { buffer.new ≡ filled_by (data_held tree.new.session) buffer.old }
     ensures told { IsTold tree.new.session result answer.new }
 {
-    let told = ask(alloc, tree, Request::Retry(TxnId(txn)));
+    let told = answer_request(alloc, tree, Request::Retry(TxnId(txn)));
     copy_data(alloc, tree, buffer);
     tell(alloc, tree, told, answer)
 }

@@ -5,8 +5,8 @@ ghost use Rattle.nuzolged.specs.Opened.{HasNew, HasTurns, HasTurnsIfAny, IsOpene
 
 use crate::handle::Handle;
 use crate::limits::{Limits, limits_given};
+use crate::nuz_answer::{BAD, BAD_LIMITS, fault_number};
 use crate::pointer::TreePointer;
-use crate::told::{BAD, BAD_LIMITS, fault_number};
 use ft_base::Memory;
 use ft_core::{Core, Fault, Limits as CoreLimits, Rule};
 use ft_session::Session;
@@ -82,7 +82,7 @@ pub extern "C" fn nuz_tree_close(tree: TreePointer) {
     drop(tree);
 }
 
-// Opens a tree by the rule of a number, with these limits, if it may have them.
+/// Opens a tree by the rule of a number, with these limits, if a tree may have them.
 fn open(alloc: Global, tree: &mut TreePointer, options: u32, limits: Option<CoreLimits>) -> u32
     ensures opened { IsOpened (rule_of options) limits result tree.new.tree }
     ensures turns { HasTurnsIfAny (fair_of options) tree.new.tree }
@@ -99,7 +99,7 @@ fn open(alloc: Global, tree: &mut TreePointer, options: u32, limits: Option<Core
     }
 }
 
-// A handle of a new tree; else the code of the reason why there is none.
+/// Returns a handle of a new tree, or the code of the reason why there is none.
 fn new_tree(alloc: Global, options: u32, limits: Option<CoreLimits>) -> Result<Box<Handle>, u32>
     ensures new { IfOk result (λ handle. IsOpened (rule_of options) limits 0 (Some handle.value)) }
     ensures turns { IfOk result (λ handle. HasTurns (fair_of options) handle.value) }
@@ -117,7 +117,7 @@ fn new_tree(alloc: Global, options: u32, limits: Option<CoreLimits>) -> Result<B
     }
 }
 
-// The rule of a number.
+/// Returns the rule of a number.
 fn rule_of(number: u32) -> Option<Rule>
     ensures { result ≡ rule_of number }
 {
@@ -128,14 +128,14 @@ fn rule_of(number: u32) -> Option<Rule>
     }
 }
 
-// Whether calls wait behind older asks by this number.
+/// Returns whether this number requests that calls queue behind older asks.
 fn fair_of(number: u32) -> bool
     ensures { result ≡ fair_of number }
 {
     number >= FAIR
 }
 
-// A handle of a session with a new core.
+/// Returns a handle of a session with a new core.
 fn new_handle(
     alloc: Global,
     rule: Rule,
@@ -147,20 +147,20 @@ fn new_handle(
     ensures refused { IfErr result (λ fault. fault ≡ fault_of_limits limits) }
 {
     let core = Core::with(alloc, rule, limits)?;
-    let session = boxed(alloc, Session::of(alloc, core, is_fair))?;
+    let session = boxed(alloc, Session::new(alloc, core, is_fair))?;
     let mut handle = Handle::closed(alloc);
     handle.put(session);
     Ok(boxed_handle(alloc, handle)?)
 }
 
-// A session in a box.
+/// Returns a session in a box.
 fn boxed(alloc: Global, session: Session) -> Result<Box<Session>, Memory>
     ensures { IfOk result (λ boxed. boxed.value ≡ session) }
 {
     Ok(Box::new(alloc, session)?)
 }
 
-// A handle in a box.
+/// Returns a handle in a box.
 fn boxed_handle(alloc: Global, handle: Handle) -> Result<Box<Handle>, Memory>
     ensures { IfOk result (λ boxed. boxed.value ≡ handle) }
 {

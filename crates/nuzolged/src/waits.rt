@@ -5,7 +5,7 @@ ghost use Rattle.nuzolged.specs.Waits.{AreBlockersTold, AreTold, HasBlockers, Ha
 
 use crate::answered::{Answered, tell};
 use crate::handle::Handle;
-use crate::told::{CLOSED, MEMORY, Told, fault_number};
+use crate::nuz_answer::{CLOSED, MEMORY, NuzAnswer, fault_number};
 use ft_base::Memory;
 use ft_core::{Core, TxnId};
 use ft_session::Session;
@@ -47,13 +47,13 @@ pub extern "C" fn nuz_cycle(
     tell(alloc, tree, told, answer)
 }
 
-// Tells for which transactions one waits now.
-fn blockers(alloc: Global, tree: &mut Handle, txn: TxnId, txns: &mut [u64]) -> Told
+/// Copies the numbers of the transactions for which a transaction of a tree waits now.
+fn blockers(alloc: Global, tree: &mut Handle, txn: TxnId, txns: &mut [u64]) -> NuzAnswer
     ensures same { tree.new.session ≡ tree.old.session }
     ensures told { AreBlockersTold tree.old.session txn result txns.old txns.new }
 {
     match tree.take(alloc) {
-        None => Told::of(CLOSED, 0, 0),
+        None => NuzAnswer::of(CLOSED, 0, 0),
         Some(session) => {
             let told = tell_blockers(&session, txn, txns);
             tree.put(session);
@@ -62,13 +62,13 @@ fn blockers(alloc: Global, tree: &mut Handle, txn: TxnId, txns: &mut [u64]) -> T
     }
 }
 
-// Tells a deadlock, if there is one.
-fn cycle(alloc: Global, tree: &mut Handle, txns: &mut [u64]) -> Told
+/// Copies the numbers of the transactions of a deadlock of a tree, if there is one.
+fn cycle(alloc: Global, tree: &mut Handle, txns: &mut [u64]) -> NuzAnswer
     ensures same { tree.new.session ≡ tree.old.session }
     ensures told { IsCycleTold tree.old.session result txns.old txns.new }
 {
     match tree.take(alloc) {
-        None => Told::of(CLOSED, 0, 0),
+        None => NuzAnswer::of(CLOSED, 0, 0),
         Some(session) => {
             let told = tell_cycle(&session.core, txns);
             tree.put(session);
@@ -77,30 +77,32 @@ fn cycle(alloc: Global, tree: &mut Handle, txns: &mut [u64]) -> Told
     }
 }
 
-// The same of a session.
-fn tell_blockers(session: &Session, txn: TxnId, txns: &mut [u64]) -> Told
+/// Copies the numbers of the transactions for which a transaction of a session waits now. Refuses a
+/// transaction that may not retry.
+fn tell_blockers(session: &Session, txn: TxnId, txns: &mut [u64]) -> NuzAnswer
     ensures { HasBlockers session.now txn result txns.old txns.new }
 {
     if let Err(fault) = session.core.may_retry(txn) {
-        return Told::of(fault_number(fault), 0, 0);
+        return NuzAnswer::of(fault_number(fault), 0, 0);
     }
     match session.blockers(txn) {
-        Err(Memory) => Told::of(MEMORY, 0, 0),
+        Err(Memory) => NuzAnswer::of(MEMORY, 0, 0),
         Ok(blockers) => tell_txns(blockers.as_slice(), txns),
     }
 }
 
-// The same of a core.
-fn tell_cycle(core: &Core, txns: &mut [u64]) -> Told
+/// Copies the numbers of the transactions of a deadlock in a core, if there is one. Returns how
+/// many there are.
+fn tell_cycle(core: &Core, txns: &mut [u64]) -> NuzAnswer
     ensures { HasCycle core.now.state result txns.old txns.new }
 {
     match judged_edges(core) {
-        Err(Memory) => Told::of(MEMORY, 0, 0),
+        Err(Memory) => NuzAnswer::of(MEMORY, 0, 0),
         Ok((_, verdict)) => tell_txns(members_of(&verdict), txns),
     }
 }
 
-// The transactions of a cycle, if that is the verdict; else none.
+/// Returns the transactions of a cycle, if the verdict is a cycle, and none otherwise.
 fn members_of(verdict: &Verdict) -> &[TxnId]
     ensures { result.now ≡ members_of verdict.now }
 {
@@ -110,8 +112,8 @@ fn members_of(verdict: &Verdict) -> &[TxnId]
     }
 }
 
-// Copies the numbers of transactions, as many as have room, and returns how many there are.
-fn tell_txns(list: &[TxnId], txns: &mut [u64]) -> Told
+/// Copies the numbers of transactions, as many as there is room for. Returns how many there are.
+fn tell_txns(list: &[TxnId], txns: &mut [u64]) -> NuzAnswer
     ensures { AreTold list.now result txns.old txns.new }
 {
     let count = list.len().min(txns.len());
@@ -119,5 +121,5 @@ fn tell_txns(list: &[TxnId], txns: &mut [u64]) -> Told
         let txn = list[place];
         txns[place] = txn.0;
     }
-    Told::of(0, 0, list.len() as u64)
+    NuzAnswer::of(0, 0, list.len() as u64)
 }

@@ -1,10 +1,17 @@
-use Rattle.std.proofs.Common.{refl, []}
+use Rattle.std.proofs.Common.{[]}
+use Rattle.std.proofs.lemmas.Result.{err_from_is_err_and}
 use Rattle.ft_posix.specs.Descriptors.{any_open, fstat_open}
 use Rattle.ft_posix.specs.Intended.{intended}
-use Rattle.ft_posix.proofs.Looking.{comes_open}
+use Rattle.ft_calls.proofs.Opened.{opened_on, opened_lost}
 use Rattle.ft_calls.proofs.descriptors.fstat.Goals as goal
 
-pub returns-in-Some : goal.returns-in-Some
-returns-in-Some c =
-    comes_open c.args.look.now c.args.fd any_open fstat_open c.in_ok-description.field-0 c.in-Some.description c.open_file.new.self c.file_info.new.look (intended [] c.file_info.result)
-    c.in_ok-description.ensures c.in-Some.is (refl) c.file_info.ensures
+pub returns-in_err-description : goal.returns-in_err-description
+returns-in_err-description c =
+    let p = err_from_is_err_and c.from_residual.result c.from_residual.ensures.1 in
+    rw (p.1, p.2) (opened_lost c.args.look.now c.args.fd any_open fstat_open c.open_for.new.look c.in_err-description.field-0.0 c.in_err-description.ensures)
+
+pub returns : goal.returns
+returns c =
+    let on = c.file_info in
+    opened_on c.args.look.now c.args.fd any_open fstat_open c.open_for.new.look c.in_ok-description.description c.in_ok-description.ensures on.new.look (intended [] on.result)
+    on.ensures

@@ -1,13 +1,20 @@
 use Rattle.std.proofs.Common.{subst, rules, []}
 use Rattle.std.proofs.lemmas.Int.{to_z-of_z}
+use Rattle.std.proofs.lemmas.Result.{err_from_is_err_and}
 use mir.Syntax.{w64}
-use Rattle.ft_posix.specs.Comes.{Comes}
-use Rattle.ft_posix.specs.Intended.{intended}
 use Rattle.ft_posix.specs.Descriptors.{is_readable, pread_open}
-use Rattle.ft_posix.proofs.Looking.{comes_open}
+use Rattle.ft_posix.specs.Computes.{Computes}
+use Rattle.ft_posix.specs.Intended.{intended}
+use Rattle.ft_calls.proofs.Opened.{opened_on, opened_lost}
 use Rattle.ft_calls.proofs.descriptors.pread.Goals as goal
 
-pub returns-in-Some : goal.returns-in-Some
-returns-in-Some c =
-    comes_open c.args.look.now c.args.fd is_readable (pread_open c.args.offset c.args.len) c.in_ok-description.field-0 c.in-Some.description c.open_file.new.self c.pread_open.new.look (intended [] c.pread_open.result)
-    c.in_ok-description.ensures c.in-Some.is (search rules) (subst (λ z. Comes c.open_file.new.self (pread_open z c.args.len c.in-Some.description) c.pread_open.new.look (intended [] c.pread_open.result)) (to_z-of_z w64 c.args.offset (search rules)) c.pread_open.ensures)
+pub returns-in_err-description : goal.returns-in_err-description
+returns-in_err-description c =
+    let p = err_from_is_err_and c.from_residual.result c.from_residual.ensures.1 in
+    rw (p.1, p.2) (opened_lost c.args.look.now c.args.fd is_readable (pread_open c.args.offset c.args.len) c.open_for.new.look c.in_err-description.field-0.0 c.in_err-description.ensures)
+
+pub returns : goal.returns
+returns c =
+    let on = c.pread_open in
+    opened_on c.args.look.now c.args.fd is_readable (pread_open c.args.offset c.args.len) c.open_for.new.look c.in_ok-description.description c.in_ok-description.ensures on.new.look (intended [] on.result)
+    (subst (λ z. Computes c.open_for.new.look (pread_open z c.args.len c.in_ok-description.description) on.new.look (intended [] on.result)) (to_z-of_z w64 c.args.offset (search rules)) on.ensures)

@@ -2,7 +2,7 @@ use Rattle.std.proofs.Common.{◌≡◌, None, Option, [], ◌∷◌, ◌++◌, 
 use Rattle.std.proofs.lemmas.List.{append_assoc}
 use Rattle.ft_cells.specs.declared.attributes.Attributes.{Attributes}
 use Rattle.ft_posix.specs.declared.intent.Edit.TheVariants.{Parent, DirAttributes}
-use Rattle.ft_posix.specs.Comes.{writes_of}
+use Rattle.ft_posix.specs.Computes.{writes_of}
 use Rattle.ft_posix.proofs.Moving.{writes_of-append}
 use Rattle.ft_calls.proofs.dirs.dir_gone.Goals as goal
 

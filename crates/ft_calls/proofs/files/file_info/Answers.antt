@@ -8,8 +8,8 @@ use Rattle.ft_cells.specs.Nodes.{kind_of_node}
 use Rattle.ft_cells.specs.Looks.{Looks, Answer, then}
 use Rattle.ft_posix.specs.declared.call.Reply.TheVariants as reply
 use Rattle.ft_posix.specs.declared.intent.Intent.{Intent}
-use Rattle.ft_posix.specs.declared.intent.Stop.{Stop}
-use Rattle.ft_posix.specs.declared.intent.Told.TheVariants.{Info}
+use Rattle.ft_posix.specs.declared.intent.CallError.{CallError}
+use Rattle.ft_posix.specs.declared.intent.PlannedReply.TheVariants.{Info}
 use Rattle.ft_posix.specs.Outcomes.{Outcome, told}
 use Rattle.ft_posix.specs.Files.{attributes_at}
 use Rattle.ft_posix.specs.Looking.{look_at}
@@ -27,7 +27,7 @@ returns c =
     let time = c.in_ok-size.time in
     let attributes = c.in_ok-attributes.attributes in
     let new = c.attributes_at.new.look in
-    let tells : Result Intent Stop = Ok (record { told = Info c.kind.result file links size attributes time; edits = [] }) in
+    let tells : Result Intent CallError = Ok (record { told = Info c.kind.result file links size attributes time; edits = [] }) in
     let on_attributes : ℕ → ℕ → Option Timestamp → Option Attributes → Looks Outcome = λ links size time attributes. Answer (told (reply.Info (kind_of_node (FileNode form file)) file links size attributes time)) in
     let on_size : ℕ → ℕ × Option Timestamp → Looks Outcome = λ links found. then (attributes_at form file) (on_attributes links found.0 found.1) in
     let on_links : ℕ → Looks Outcome = λ links. then (size_and_time_at file) (on_size links) in

@@ -2,7 +2,7 @@ use Rattle.std.proofs.Common.{◌≡◌, Option, Some, [], ◌∷◌, ◌++◌, 
 use Rattle.ft_cells.specs.declared.attributes.Attributes.{Attributes}
 use Rattle.ft_posix.specs.declared.intent.Edit.TheVariants.{DirAttributes}
 use Rattle.ft_posix.specs.Attributes.{dir_mode}
-use Rattle.ft_posix.specs.Comes.{writes_of}
+use Rattle.ft_posix.specs.Computes.{writes_of}
 use Rattle.ft_posix.proofs.Moving.{writes_of-append}
 use Rattle.ft_calls.proofs.making.set_dir_mode.Goals as goal
 

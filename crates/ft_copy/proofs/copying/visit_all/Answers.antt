@@ -1,6 +1,6 @@
 use Rattle.std.proofs.Common.{◌≡◌, List, [], ◌∷◌, ◌++◌, inl, inr, length-append, append-nil, refl, sym, subst, ◌∙◌, arith, rules}
 use Rattle.std.specs.List.{flat_map}
-use Rattle.ft_copy.specs.declared.found.Place.{Place}
+use Rattle.ft_copy.specs.declared.found.CopyPath.{CopyPath}
 use Rattle.ft_copy.specs.Asked.{DoesAll}
 use Rattle.ft_copy.specs.Runs.{WalksTo, asked_of}
 use Rattle.ft_copy.specs.Walks.{firsts_of, standing}
@@ -35,7 +35,7 @@ returns-in_default-clause-ok g c =
     let empty = none_left left.len left.items left.ok.0 c.in_default.ensures.cases.0 in
     let same : left.items ≡ c.pop.new.self.items = c.in_default.ensures.items ∙ append-nil c.pop.new.self.items in (
       so_far.0,
-      subst (λ (l : List Place). WalksTo c.args.limits (g.S.Source.tells c.args.source.now) (standing c.args.walk.now) so_far.0 (record { left = l; links = walk.links.items; firsts = firsts_of walk.firsts })) same so_far.1,
+      subst (λ (l : List CopyPath). WalksTo c.args.limits (g.S.Source.tells c.args.source.now) (standing c.args.walk.now) so_far.0 (record { left = l; links = walk.links.items; firsts = firsts_of walk.firsts })) same so_far.1,
       sym same ∙ empty,
       so_far.2,
     )

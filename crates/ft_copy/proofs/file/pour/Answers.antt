@@ -4,7 +4,7 @@ use Rattle.std.specs.Io.KnownBytes.{Consumes}
 use Rattle.ft_copy.specs.Asked.{Piece, DoesAll}
 use Rattle.ft_copy.proofs.Doing.{concat_more, consumed_more, consumed_none, does_more, does_one, length_pieces, pieces_more}
 use Rattle.ft_copy.proofs.Stopping.{at_fault, stops_all, stops_first, stops_nothing, stops_pieces, unread}
-use Rattle.ft_copy.specs.declared.trouble.Trouble.TheVariants.{TooLarge}
+use Rattle.ft_copy.specs.declared.copy_fault.CopyFault.TheVariants.{TooLarge}
 use Rattle.ft_copy.specs.Stops.{EndsReading}
 use Rattle.ft_copy.proofs.file.pour.Goals as goal
 

@@ -1,6 +1,6 @@
 use Rattle.std.proofs.Common.{refl, ap, ◌∙◌}
 use Rattle.ft_undo.specs.Logs.{is_open}
-use Rattle.ft_moss.specs.Locks.{is_opened}
+use Rattle.ft_lock_rules.specs.Locks.{is_opened}
 use Rattle.ft_core.proofs.Opening.{open-other, logs-other, locks-same, locks-opened, one-noted, ready-noted}
 use Rattle.ft_core.proofs.manager.open.Goals as goal
 

@@ -1,8 +1,8 @@
 use Rattle.std.proofs.Common.{◌||◌, ap, sym, ◌∙◌}
 use Rattle.std.specs.FinMap as finite
 use Rattle.ft_cells.specs.declared.cell.Cell.TheVariants.{Names}
-use Rattle.ft_moss.specs.Cells.{Cells}
-use Rattle.ft_moss.specs.Blocking.{against, beside}
+use Rattle.ft_lock_rules.specs.Cells.{Cells}
+use Rattle.ft_lock_rules.specs.Blocking.{against, beside}
 use Rattle.ft_locks.proofs.Nameless.{none_beside}
 use Rattle.ft_locks.proofs.blocking.note_beside.Goals as goal
 

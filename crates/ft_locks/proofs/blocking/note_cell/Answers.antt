@@ -1,7 +1,7 @@
 use Rattle.std.proofs.Common.{◌||◌, ap, ◌∙◌}
 use Rattle.std.specs.FinMap as finite
-use Rattle.ft_moss.specs.Blocking.{against, is_holder_in_way}
-use Rattle.ft_moss.proofs.Cases.{ok_then}
+use Rattle.ft_lock_rules.specs.Blocking.{against, is_holder_in_way}
+use Rattle.ft_lock_rules.proofs.Cases.{ok_then}
 use Rattle.ft_locks.proofs.blocking.note_cell.Goals as goal
 
 pub returns : goal.returns

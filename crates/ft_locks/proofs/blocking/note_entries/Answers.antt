@@ -1,8 +1,8 @@
 use Rattle.std.proofs.Common.{◌||◌, ap, take_all, get_or, ◌∙◌}
 use Rattle.std.specs.List.{list_any}
 use Rattle.std.specs.FinMap as finite
-use Rattle.ft_moss.specs.Blocking.{against, is_holder_in_way}
-use Rattle.ft_moss.proofs.InTheWay.{way_under, noted_more, noted_none, noted_all}
+use Rattle.ft_lock_rules.specs.Blocking.{against, is_holder_in_way}
+use Rattle.ft_lock_rules.proofs.InTheWay.{way_under, noted_more, noted_none, noted_all}
 use Rattle.ft_locks.proofs.blocking.note_entries.Goals as goal
 
 pub returns-in_default : goal.returns-in_default

@@ -1,8 +1,8 @@
 use Rattle.std.proofs.Common.{◌≡◌, ◌||◌, ℕ, take}
 use Rattle.std.specs.List.{list_any}
 use Rattle.std.specs.FinMap as finite
-use Rattle.ft_moss.specs.Blocking.{against}
-use Rattle.ft_moss.proofs.InTheWay.{way_under}
+use Rattle.ft_lock_rules.specs.Blocking.{against}
+use Rattle.ft_lock_rules.proofs.InTheWay.{way_under}
 use Rattle.ft_locks.proofs.blocking.note_entries.Given as goal
 
 abbrev pub invariant-loop-key : goal.invariant-loop-key

@@ -1,6 +1,6 @@
 use Rattle.std.proofs.Common.{◌≡◌, ◌||◌, ℕ, take}
 use Rattle.std.specs.FinMap as finite
-use Rattle.ft_moss.specs.Blocking.{against, is_listed_in_way}
+use Rattle.ft_lock_rules.specs.Blocking.{against, is_listed_in_way}
 use Rattle.ft_locks.proofs.blocking.note_list.Given as goal
 
 abbrev pub invariant-loop-holding : goal.invariant-loop-holding

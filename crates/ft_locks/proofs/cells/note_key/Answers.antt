@@ -1,5 +1,5 @@
 use Rattle.std.proofs.Common.{◌≡◌}
-use Rattle.ft_moss.proofs.Cases.{on_any}
+use Rattle.ft_lock_rules.proofs.Cases.{on_any}
 use Rattle.ft_locks.specs.Hashes.{cell_hash}
 use Rattle.ft_locks.proofs.Hashed.{added_there, taken_back}
 use Rattle.ft_locks.proofs.cells.note_key.Goals as goal

@@ -2,12 +2,12 @@ use Rattle.std.proofs.Common.{IsSome, ap, sym, subst, ◌∙◌}
 use Rattle.std.specs.List.{list_any}
 use Rattle.std.specs.FinMap as finite
 use Rattle.ft_cells.specs.CellOrder.{same_cell}
-use Rattle.ft_moss.specs.Cells.{marks_at}
-use Rattle.ft_moss.specs.Holdings.{AreSingle, AreUsed, has_place, cells_under}
+use Rattle.ft_lock_rules.specs.Cells.{marks_at}
+use Rattle.ft_lock_rules.specs.Holdings.{AreSingle, AreUsed, has_place, cells_under}
 use Rattle.ft_locks.proofs.Slots.{if_known, and_some}
-use Rattle.ft_moss.proofs.Joining.{hand_step}
-use Rattle.ft_moss.proofs.Under.{first_key}
-use Rattle.ft_moss.proofs.Whole.{first_has, single_rest, rest_has}
+use Rattle.ft_lock_rules.proofs.Joining.{hand_step}
+use Rattle.ft_lock_rules.proofs.Under.{first_key}
+use Rattle.ft_lock_rules.proofs.Whole.{first_has, single_rest, rest_has}
 use Rattle.ft_locks.proofs.holdings.hand_all.Goals as goal
 
 pub hand_over-requires-clause-there : goal.hand_over-requires-clause-there

@@ -2,8 +2,8 @@ use Rattle.std.proofs.Common.{◌≡◌, ℕ}
 use Rattle.std.specs.List.{list_any}
 use Rattle.ft_cells.specs.declared.cell.Cell.{Cell}
 use Rattle.ft_cells.specs.CellOrder.{same_cell}
-use Rattle.ft_moss.specs.Cells.{marks_at, after_hand}
-use Rattle.ft_moss.specs.Holdings.{AreSingle, AreUsed, has_place, cells_under}
+use Rattle.ft_lock_rules.specs.Cells.{marks_at, after_hand}
+use Rattle.ft_lock_rules.specs.Holdings.{AreSingle, AreUsed, has_place, cells_under}
 use Rattle.ft_locks.proofs.holdings.hand_all.Given as goal
 
 -- the keys that are left are those of the cells on which the owner still has a place

@@ -1,7 +1,7 @@
 use Rattle.std.proofs.Common.{◌+◌, ap, ◌∙◌}
 use Rattle.std.specs.List.{count_by}
 use Rattle.std.proofs.lemmas.List.{take_all}
-use Rattle.ft_moss.specs.Listing.{times_listed, is_by}
+use Rattle.ft_lock_rules.specs.Listing.{times_listed, is_by}
 use Rattle.ft_locks.proofs.Listed.{holding_more}
 use Rattle.ft_locks.proofs.listing.list_cell.Goals as goal
 

@@ -1,7 +1,7 @@
 use Rattle.std.proofs.Common.{◌≡◌, ◌+◌, take}
 use Rattle.std.specs.List.{count_by}
-use Rattle.ft_moss.specs.declared.line.LockLine.{LockLine}
-use Rattle.ft_moss.specs.Listing.{times_listed, is_by}
+use Rattle.ft_lock_rules.specs.declared.line.LockLine.{LockLine}
+use Rattle.ft_lock_rules.specs.Listing.{times_listed, is_by}
 use Rattle.ft_locks.proofs.listing.list_cell.Given as goal
 
 abbrev pub invariant-loop-holding : goal.invariant-loop-holding

@@ -1,6 +1,6 @@
 use Rattle.std.proofs.Common.{◌≡◌, ◌+◌, ap, sym, ◌∙◌, arith}
 use Rattle.std.specs.List.{count_by}
-use Rattle.ft_moss.specs.Listing.{times_listed}
+use Rattle.ft_lock_rules.specs.Listing.{times_listed}
 use Rattle.ft_locks.specs.Slots.{is_on}
 use Rattle.ft_locks.proofs.Listed.{cell_more}
 use Rattle.ft_locks.proofs.listing.list_cells.Goals as goal

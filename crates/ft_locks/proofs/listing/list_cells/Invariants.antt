@@ -1,7 +1,7 @@
 use Rattle.std.proofs.Common.{◌≡◌, ◌+◌}
 use Rattle.std.specs.List.{count_by}
-use Rattle.ft_moss.specs.declared.line.LockLine.{LockLine}
-use Rattle.ft_moss.specs.Listing.{times_listed}
+use Rattle.ft_lock_rules.specs.declared.line.LockLine.{LockLine}
+use Rattle.ft_lock_rules.specs.Listing.{times_listed}
 use Rattle.ft_locks.specs.Slots.{is_on}
 use Rattle.ft_locks.proofs.listing.list_cells.Given as goal
 

@@ -1,6 +1,6 @@
 use Rattle.std.proofs.Common.{ap}
-use Rattle.ft_moss.specs.Marks.{has_mark}
-use Rattle.ft_moss.proofs.Tables.{line}
+use Rattle.ft_lock_rules.specs.LockModes.{has_mark}
+use Rattle.ft_lock_rules.proofs.Tables.{line}
 use Rattle.ft_locks.proofs.Listed.{lock_added, lock_skipped}
 use Rattle.ft_locks.proofs.listing.list_lock.Goals as goal
 

@@ -6,8 +6,8 @@ use Rattle.ft_run.proofs.status.jobs_status.Goals as goal
 pub returns-in-Err-clause-fault : goal.returns-in-Err-clause-fault
 returns-in-Err-clause-fault g c one =
     let before = g.E.Write.contents c.args.errors.now in
-    let after = g.E.Write.contents c.failed.new.errors in
-    (c.in-Err.fault, c.in-Err.ensures.fault, subst (WritesFront before after) c.run_fault_line.ensures c.failed.ensures.line)
+    let after = g.E.Write.contents c.report_fault.new.errors in
+    (c.in-Err.fault, c.in-Err.ensures.fault, subst (WritesFront before after) c.run_fault_line.ensures c.report_fault.ensures.line)
 
 pub returns-in-Ok-clause-quiet : goal.returns-in-Ok-clause-quiet
 returns-in-Ok-clause-quiet g c = λ none. keeps_refl (g.E.Write.contents c.args.errors.now)

@@ -5,5 +5,5 @@ use Rattle.ft_run.proofs.status.play_status.Goals as goal
 pub returns-clause-fault : goal.returns-clause-fault
 returns-clause-fault g c one =
     let before = g.E.Write.contents c.args.errors.now in
-    let after = g.E.Write.contents c.failed.new.errors in
-    (c.in-Err.fault, c.play.new.core.state, c.in-Err.ensures.fault, subst (WritesFront before after) c.fault_line.ensures c.failed.ensures.line)
+    let after = g.E.Write.contents c.report_fault.new.errors in
+    (c.in-Err.fault, c.play.new.core.state, c.in-Err.ensures.fault, subst (WritesFront before after) c.fault_line.ensures c.report_fault.ensures.line)

@@ -7,11 +7,11 @@ use Rattle.ft_run.proofs.strictly.play_strictly_status.Goals as goal
 pub returns-in-Err-Play-clause-fault : goal.returns-in-Err-Play-clause-fault
 returns-in-Err-Play-clause-fault g c one =
     let before = g.E.Write.contents c.args.errors.now in
-    let after = g.E.Write.contents c.failed.new.errors in
+    let after = g.E.Write.contents c.report_fault.new.errors in
     let is : c.in-Err-Play.field-0 ≡ Play c.in-Err-Play.fault = search rules in
     let stops = subst (λ (fault : StrictFault). StopsStrictly fault (g.R.Read.remaining c.args.reader.now) (g.R.Read.remaining c.play_strictly.new.reader)
     (g.W.Write.contents c.args.writer.now) (g.W.Write.contents c.play_strictly.new.writer) c.args.core.state c.play_strictly.new.core.state) is c.in-Err-Play.ensures.fault in
-    (c.in-Err-Play.fault, c.play_strictly.new.core.state, stops, subst (WritesFront before after) c.fault_line.ensures c.failed.ensures.line)
+    (c.in-Err-Play.fault, c.play_strictly.new.core.state, stops, subst (WritesFront before after) c.fault_line.ensures c.report_fault.ensures.line)
 
 pub returns-in-Ok-clause-ok : goal.returns-in-Ok-clause-ok
 returns-in-Ok-clause-ok g c zero = (c.play_strictly.new.core.state, c.in-Ok.ensures.ok)
@@ -21,4 +21,4 @@ returns-clause-failed g c three =
     let is : c.in-Err-Line.field-0 ≡ Line c.in-Err-Line.line = search rules in
     let stops = subst (λ (fault : StrictFault). StopsStrictly fault (g.R.Read.remaining c.args.reader.now) (g.R.Read.remaining c.play_strictly.new.reader)
     (g.W.Write.contents c.args.writer.now) (g.W.Write.contents c.play_strictly.new.writer) c.args.core.state c.play_strictly.new.core.state) is c.in-Err-Line.ensures.fault in
-    (c.in-Err-Line.line, c.play_strictly.new.core.state, stops, c.line_failed.ensures.line)
+    (c.in-Err-Line.line, c.play_strictly.new.core.state, stops, c.report_line.ensures.line)

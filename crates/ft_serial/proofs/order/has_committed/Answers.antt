@@ -11,5 +11,5 @@ none-committed e = absurd (cc)
 
 pub returns-in-None : goal.returns-in-None
 returns-in-None c =
-    not-committed c.args.core.now c.requires c.way_up.result.top None (sym c.in-None.ensures) none-committed
-    ∙ ap (is_committed posix_calls (history c.args.core.now.state)) c.way_up.ensures.top
+    not-committed c.args.core.now c.requires c.find_top.result.top None (sym c.in-None.ensures) none-committed
+    ∙ ap (is_committed posix_calls (history c.args.core.now.state)) c.find_top.ensures.top

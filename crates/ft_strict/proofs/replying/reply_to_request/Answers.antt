@@ -1,5 +1,5 @@
 use Rattle.std.proofs.Common.{◌++◌, ◌∷◌, [], inr, refl}
-use Rattle.ft_replies.specs.Texts.{text_of}
+use Rattle.ft_line.specs.Texts.{text_of}
 use Rattle.ft_strict.specs.Wells.{is_well}
 use Rattle.ft_strict.proofs.Answering.{on_err}
 use Rattle.ft_strict.proofs.replying.reply_to_request.Goals as goal

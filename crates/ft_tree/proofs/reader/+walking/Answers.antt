@@ -2,7 +2,7 @@ use Rattle.std.proofs.Common.{rules, arith, ◌≡◌, ◌∙◌, ap, Result, Ok
 use Rattle.std.proofs.lemmas.Bool.Decides.{nat_tests}
 use Rattle.std.proofs.lemmas.Result.{IfOk-weaker, on_ok_weaker}
 use Rattle.ft_path.specs.declared.errno.Errno.{Errno}
-use Rattle.ft_cells.specs.declared.node.Spot.{Spot}
+use Rattle.ft_cells.specs.declared.node.PathEnd.{PathEnd}
 use Rattle.ft_cells.specs.declared.cell.Cell.TheVariants.{Bytes}
 use Rattle.ft_cells.specs.Cells.{bytes_of}
 use Rattle.ft_cells.specs.Looks.{Looks, answer, or_else}
@@ -48,7 +48,7 @@ pub onward-returns-in-Ok-clause-end : goal.onward-returns-in-Ok-clause-end
 onward-returns-in-Ok-clause-end g t c =
     let cells = g.R.Reader.cells in
     let old = c.args.reader.now in
-    let go : Way → Looks (Result Spot Errno) = λ way. walk_on c.args.links.left c.args.links.last way.start way.names way.slash in
+    let go : Way → Looks (Result PathEnd Errno) = λ way. walk_on c.args.links.left c.args.links.last way.start way.names way.slash in
     let same : cells c.target.new.self ≡ cells old = ap cells c.in_ok-target.ensures.noted ∙ g.met.R.Reader.stays old (Bytes c.args.met.link) in
     let led : Ok c.in-Ok.way ≡ way_behind c.args.met.dir c.args.met.names.now c.args.slash (bytes_of (cells old) c.args.met.link) = search rules in
     let way : answer (go c.in-Ok.way) (view_of (cells c.target.new.self)) ≡ answer (or_else Err go (way_behind c.args.met.dir c.args.met.names.now c.args.slash (bytes_of (cells old) c.args.met.link))) (view_of (cells old)) =

@@ -2,14 +2,14 @@ use Rattle.std.proofs.Common.{◌≡◌, unwrap_or, sym, ap, ◌∙◌, rules}
 use Rattle.std.specs.Option.{option_flatten}
 use Rattle.ft_cells.specs.Cells.{Cells, put_entry, put_parent, put_links, put_contents, put_open, put_dir_attributes, put_file_attributes}
 use Rattle.ft_posix.specs.Stored.{put}
-use Rattle.ft_undo.specs.declared.undo.Back.{Back}
+use Rattle.ft_undo.specs.declared.undo.BeforeImage.{BeforeImage}
 use Rattle.ft_undo.specs.Undone.{given_back}
 use Rattle.ft_undo.proofs.undo.give_back.Goals as goal
 use Rattle.ft_undo.proofs.undo.give_back.Goals.{in-Entry, in-Parent, in-Links, in-Bytes, in-Open, in-DirAttributes, in-FileAttributes, in-Time}
 
 -- what gives back puts what it gives
-puts : (cells new : Cells) (back given : Back) → back ≡ given → new ≡ put cells (given_back given) → new ≡ put cells (given_back back)
-puts cells new back given is made = made ∙ sym (ap (λ (b : Back). put cells (given_back b)) is)
+puts : (cells new : Cells) (back given : BeforeImage) → back ≡ given → new ≡ put cells (given_back given) → new ≡ put cells (given_back back)
+puts cells new back given is made = made ∙ sym (ap (λ (b : BeforeImage). put cells (given_back b)) is)
 
 pub returns : goal.returns
 returns c =

@@ -4,9 +4,9 @@ use Rattle.ft_cells.specs.declared.cell.Cell.TheVariants.{Bytes}
 use Rattle.ft_cells.specs.Cells.{Cells, Contents, ContentsChange, contents_of, put_contents}
 use Rattle.ft_posix.specs.declared.intent.Edit.{Edit}
 use Rattle.ft_posix.specs.CellLaws.{SettingLaw}
-use Rattle.ft_posix.specs.Comes.{write_of}
+use Rattle.ft_posix.specs.Computes.{write_of}
 use Rattle.ft_posix.specs.Stored.{put}
-use Rattle.ft_undo.specs.declared.undo.Back.TheVariants as back
+use Rattle.ft_undo.specs.declared.undo.BeforeImage.TheVariants as back
 use Rattle.ft_undo.specs.Undone.{back_of}
 use Rattle.ft_posix.proofs.Setting.{setting}
 use Rattle.ft_undo.proofs.undo.set.Goals as goal

@@ -1,8 +1,8 @@
 use Rattle.std.proofs.Common.{rules, arith, ◌≡◌, ℕ, List, IfOk, subst, ap, ◌∙◌}
 use Rattle.ft_tree.specs.Tidy.{tidy}
 use Rattle.ft_posix.specs.declared.call.Reply.{Reply}
-use Rattle.ft_posix.specs.declared.intent.Told.{Told}
-use Rattle.ft_posix.specs.Comes.{reply_of}
+use Rattle.ft_posix.specs.declared.intent.PlannedReply.{PlannedReply}
+use Rattle.ft_posix.specs.Computes.{reply_of}
 use Rattle.ft_posix.specs.Stored.{outcome}
 use Rattle.ft_undo.proofs.Fresh.{no_bytes}
 use Rattle.ft_view.specs.declared.TheConstants.{READING}
@@ -20,5 +20,5 @@ returns c =
     let copied : c.in_ok-try_clone.field-0 ≡ c.args.path.now = search rules in
     let comes = c.in_ok-intent.ensures.outcome ∙ ap (λ (path : List ℕ). outcome cells READING (open_to_read path)) copied in
     let same : reply_of cells c.whole-told.result ≡ contents_on (tidy cells) c.args.path.now =
-    ap (λ (told : Told). reply_of cells told) c.whole-told.ensures ∙ contents_are cells c.requires c.args.path.now c.in_ok-intent.field-0.intent comes in
+    ap (λ (told : PlannedReply). reply_of cells told) c.whole-told.ensures ∙ contents_are cells c.requires c.args.path.now c.in_ok-intent.field-0.intent comes in
     subst (λ (reply : Reply). IfOk c.reply.result (λ told. told ≡ reply)) same c.reply.ensures.reply

@@ -1,7 +1,7 @@
 use Rattle.std.proofs.Common.{◌≡◌, IfOk, subst, sym, ap, ◌∙◌, arith}
 use Rattle.ft_tree.specs.Tidy.{tidy}
 use Rattle.ft_posix.specs.declared.call.Reply.{Reply}
-use Rattle.ft_posix.specs.Comes.{reply_of}
+use Rattle.ft_posix.specs.Computes.{reply_of}
 use Rattle.ft_posix.specs.Outcomes.{Outcome}
 use Rattle.ft_posix.proofs.Executed.{tidying}
 use Rattle.ft_undo.proofs.Fresh.{no_bytes}

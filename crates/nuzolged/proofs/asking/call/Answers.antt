@@ -7,5 +7,5 @@ use Rattle.nuzolged.proofs.asking.call.Goals as goal
 
 pub returns-clause-whole : goal.returns-clause-whole
 returns-clause-whole c = λ whole is.
-    whole_asked c.args.tree.now.session c.ask.new.tree.session c.args.txn c.ask.result whole
-    (subst (λ (call : Call). IsAsked c.args.tree.now.session (Ask c.args.txn call) c.ask.result c.ask.new.tree.session) is c.ask.ensures)
+    whole_asked c.args.tree.now.session c.answer_request.new.tree.session c.args.txn c.answer_request.result whole
+    (subst (λ (call : Call). IsAsked c.args.tree.now.session (Ask c.args.txn call) c.answer_request.result c.answer_request.new.tree.session) is c.answer_request.ensures)

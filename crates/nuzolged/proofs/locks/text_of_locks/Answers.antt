@@ -1,6 +1,6 @@
 use Rattle.std.proofs.Common.{◌≡◌, List, ap, ◌∙◌, rules}
 use Rattle.std.proofs.lemmas.Fn.{filter_same}
-use Rattle.ft_moss.specs.declared.line.LockLine.{LockLine}
+use Rattle.ft_lock_rules.specs.declared.line.LockLine.{LockLine}
 use Rattle.nuzolged.specs.Locks.{owned_by, text_of}
 use Rattle.nuzolged.proofs.locks.text_of_locks.Goals as goal
 

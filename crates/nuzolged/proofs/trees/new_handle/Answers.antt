@@ -11,8 +11,8 @@ returns-clause-new c =
       ap (λ (h : Handle). h.session) c.in_ok-boxed_handle.ensures ∙ c.put.ensures,
       (
         c.in_ok-core.ensures.within,
-        ap (λ (s : Session). s.core.state) boxed ∙ ap (λ (k : Core). k.state) c.of.ensures.core ∙ c.in_ok-core.ensures.state,
-        ap (λ (s : Session). s.last) boxed ∙ c.of.ensures.last,
+        ap (λ (s : Session). s.core.state) boxed ∙ ap (λ (k : Core). k.state) c.new.ensures.core ∙ c.in_ok-core.ensures.state,
+        ap (λ (s : Session). s.last) boxed ∙ c.new.ensures.last,
       ),
     )
 
@@ -21,6 +21,6 @@ returns-clause-turns c =
     let boxed = c.in_ok-session.ensures in (
       c.in_ok-session.session.value,
       ap (λ (h : Handle). h.session) c.in_ok-boxed_handle.ensures ∙ c.put.ensures,
-      ap (λ (s : Session). s.is_fair) boxed ∙ c.of.ensures.fair,
-      ap (λ (s : Session). s.turns.items) boxed ∙ c.of.ensures.turns,
+      ap (λ (s : Session). s.is_fair) boxed ∙ c.new.ensures.fair,
+      ap (λ (s : Session). s.turns.items) boxed ∙ c.new.ensures.turns,
     )

@@ -1,7 +1,7 @@
 use Rattle.std.proofs.Common.{◌≡◌, ◌∙◌, ap, subst, sym}
 use Rattle.ft_posix.specs.Accesses.{accesses_of}
-use Rattle.ft_moss.specs.Locks.{AreBlockers}
-use Rattle.ft_moss.specs.Rules.{is_strict}
+use Rattle.ft_lock_rules.specs.Locks.{AreBlockers}
+use Rattle.ft_lock_rules.specs.Rules.{is_strict}
 use Rattle.ft_core.specs.Reports.{blockers_now}
 use Rattle.ft_undo.proofs.Fresh.{no_bytes}
 use Rattle.ft_core.proofs.Asks.{blocked, next-free}
@@ -13,11 +13,11 @@ use Rattle.ft_core.proofs.manager.Core.blockers_now.Goals as goal
 pub accesses-requires : goal.accesses-requires
 accesses-requires c = no_bytes (next-free call_laws lock_laws c.self.inside.parts c.self.inside.journal c.self.invariant.0 c.next_stamp-stamp.result c.next_stamp-stamp.ensures)
 
-pub survey-requires-clause-no_holder : goal.survey-requires-clause-no_holder
-survey-requires-clause-no_holder c strict = c.self.invariant.0.no_holder (sym (ap is_strict c.rule-rule.ensures) ∙ strict)
+pub check-requires-clause-no_holder : goal.check-requires-clause-no_holder
+check-requires-clause-no_holder c strict = c.self.invariant.0.no_holder (sym (ap is_strict c.rule-rule.ensures) ∙ strict)
 
-pub survey-requires-clause-alone : goal.survey-requires-clause-alone
-survey-requires-clause-alone c = alone-there call_laws lock_laws c.self.invariant.0 c.args.txn
+pub check-requires-clause-alone : goal.check-requires-clause-alone
+check-requires-clause-alone c = alone-there call_laws lock_laws c.self.invariant.0 c.args.txn
 
 pub returns-clause-blockers : goal.returns-clause-blockers
 returns-clause-blockers c =

@@ -1,6 +1,6 @@
 use Rattle.std.proofs.Common.{◌≡◌, true, Some, IsSome, refl, sym, ap, subst, ◌∙◌}
 use Rattle.std.specs.FinMap as finite
-use Rattle.ft_moss.specs.Rules.{is_strict}
+use Rattle.ft_lock_rules.specs.Rules.{is_strict}
 use Rattle.ft_core.specs.States.{State, fate_of, has_most_calls, accesses_now, after_wait}
 use Rattle.ft_core.specs.Journals.{asked_for, state_of, with_call}
 use Rattle.ft_core.specs.Tries.{IsTried, IsWhole}

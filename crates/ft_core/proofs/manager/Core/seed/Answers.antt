@@ -1,6 +1,6 @@
 use Rattle.std.proofs.Common.{refl, sym, ap, subst, ◌∙◌}
 use Rattle.ft_cells.specs.Cells.{Cells}
-use Rattle.ft_moss.specs.Locks.{LockTable}
+use Rattle.ft_lock_rules.specs.Locks.{LockTable}
 use Rattle.ft_core.specs.Journals.{state_of}
 use Rattle.ft_core.specs.Memos.{IsTrueOf}
 use Rattle.ft_core.proofs.Asks.{core-unmade}

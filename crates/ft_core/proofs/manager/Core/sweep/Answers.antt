@@ -1,6 +1,6 @@
 use Rattle.std.proofs.Common.{sym, ap, subst}
 use Rattle.ft_core.proofs.Memos.{forgotten}
-use Rattle.ft_moss.specs.Locks.{LockTable}
+use Rattle.ft_lock_rules.specs.Locks.{LockTable}
 use Rattle.ft_core.specs.States.{State}
 use Rattle.ft_core.specs.Journals.{state_of}
 use Rattle.ft_core.specs.Living.{NoneIsLive}

@@ -1,8 +1,8 @@
 use Rattle.std.proofs.Common.{◌≡◌, ◌∙◌, ℕ, Some, None, true, false, Result, Ok, Err, List, ◌∷◌, refl, ap, sym, subst, arith}
 use Rattle.ft_core.proofs.Memos.{forgotten}
-use Rattle.ft_base.specs.Chains.{list_in}
+use Rattle.ft_base.specs.OwnedLists.{list_in}
 use Rattle.ft_posix.specs.Posix.{posix_calls}
-use Rattle.ft_undo.specs.declared.logs.Logged.{Logged}
+use Rattle.ft_undo.specs.declared.logs.LogRecord.{LogRecord}
 use Rattle.ft_undo.specs.Undone.{CanGiveAllBack}
 use Rattle.ft_forest.specs.Transactions.{IsLiveChild}
 use Rattle.ft_history.specs.History.{live_children}
@@ -30,7 +30,7 @@ use Rattle.ft_core.proofs.Refusing.{step-refused}
 use Rattle.ft_core.proofs.Undoes.{core-undo}
 use Rattle.ft_core.proofs.manager.Core.undo_call.Goals as goal
 
-one : {x y : Logged} {xs ys : List Logged} → x ∷ xs ≡ y ∷ ys → x ≡ y
+one : {x y : LogRecord} {xs ys : List LogRecord} → x ∷ xs ≡ y ∷ ys → x ≡ y
 one e = cc
 
 pub returns-then-live_children-gt0-clause-step : goal.returns-then-live_children-gt0-clause-step
@@ -61,7 +61,7 @@ take_newest-requires c = λ x xs e.
     let d : Granted = c.in_ok-stamp.ensures.found.0 in
     let found : undo_target posix_calls (history s) c.args.txn ≡ Found d = ap (λ (q : State). undo_target posix_calls (history q) c.args.txn) (state-is c.self.view_is) ∙ c.in_ok-stamp.ensures.found.1 in
     let undoes = core-undo call_laws lock_laws c.self.invariant.0 c.args.txn live none d found in
-    subst (λ (y : Logged). CanGiveAllBack i.parts.tree y.undo) (one (sym undoes.list ∙ e)) undoes.can
+    subst (λ (y : LogRecord). CanGiveAllBack i.parts.tree y.undo) (one (sym undoes.list ∙ e)) undoes.can
 
 pub invariant_of-self : goal.invariant_of-self
 invariant_of-self c = (
@@ -77,7 +77,7 @@ invariant_of-self c = (
       (core-ended s (state_of i.parts.forest c.tell.new.self) (UndoEvent d.call.stamp) s.asks
       (state-ended i.parts.forest i.parts.forest i.journal c.tell.new.self (UndoEvent d.call.stamp) s.asks refl refl refl (told-event i.journal c.tell.new.self (UndoEvent d.call.stamp) told))
       (undoes.after c.take_newest.new.self.tree (c.take_newest.ensures.cells undoes.newest undoes.rest undoes.list) c.take_newest.new.self.logs
-      (λ x. c.take_newest.ensures.lists x ∙ ap (λ (ys : List Logged). put (list_in i.parts.logs) c.args.txn (rest ys) x) undoes.list) c.take_newest.ensures.opened c.tell.new.self told))),
+      (λ x. c.take_newest.ensures.lists x ∙ ap (λ (ys : List LogRecord). put (list_in i.parts.logs) c.args.txn (rest ys) x) undoes.list) c.take_newest.ensures.opened c.tell.new.self told))),
   forgotten c.forget.new.self _ _ c.forget.ensures,
 )
 

@@ -1,8 +1,8 @@
 use Rattle.std.proofs.Common.{◌≡◌, ◌∙◌, ℕ, Some, ap, sym, subst, arith}
 use Rattle.std.specs.Option.{option_map}
-use Rattle.ft_base.specs.Chains.{list_in}
+use Rattle.ft_base.specs.OwnedLists.{list_in}
 use Rattle.ft_posix.specs.Posix.{posix_calls}
-use Rattle.ft_undo.specs.declared.logs.Logged.{Logged}
+use Rattle.ft_undo.specs.declared.logs.LogRecord.{LogRecord}
 use Rattle.ft_undo.specs.Logs.{newest_of}
 use Rattle.ft_history.specs.History.Fate.{Live}
 use Rattle.ft_history.specs.Undoing.{undo_target}
@@ -22,7 +22,7 @@ returns-in-Some-last_sub-clause-refused c =
     let i = c.self.inside in
     let s : State = state_of i.parts.forest i.journal in
     let live : fate_of s c.args.txn ≡ Some Live = ap (λ (q : State). fate_of q c.args.txn) (state-is c.self.view_is) ∙ c.requires in
-    let first : c.newest.result ≡ option_map (λ (x : Logged). x.stamp) (newest_of (list_in i.parts.logs c.args.txn)) = c.newest.ensures ∙ ap (λ (n : ℕ). option_map (λ (x : Logged). x.stamp) (newest_of (list_in i.parts.logs n))) c.txn.view_is in
+    let first : c.newest.result ≡ option_map (λ (x : LogRecord). x.stamp) (newest_of (list_in i.parts.logs c.args.txn)) = c.newest.ensures ∙ ap (λ (n : ℕ). option_map (λ (x : LogRecord). x.stamp) (newest_of (list_in i.parts.logs n))) c.txn.view_is in
     ap (λ (q : State). fault_of_target (undo_target posix_calls (history q) c.args.txn)) (sym (state-is c.self.view_is))
     ∙ told-since call_laws lock_laws c.self.invariant.0 c.args.txn live c.newest.result c.last_sub-last_sub.result c.in-Some-last_sub.sub first c.last_sub-last_sub.ensures c.in-Some-last_sub.is (λ n e. let same : c.in-Some.stamp ≡ n = same_some c.in-Some.stamp n (sym c.in-Some.is ∙ e) in let le = c.if-stamp-sub.true in omega arith)
 
@@ -31,7 +31,7 @@ returns-in_default-clause-found c =
     let i = c.self.inside in
     let s : State = state_of i.parts.forest i.journal in
     let live : fate_of s c.args.txn ≡ Some Live = ap (λ (q : State). fate_of q c.args.txn) (state-is c.self.view_is) ∙ c.requires in
-    let first : c.newest.result ≡ option_map (λ (x : Logged). x.stamp) (newest_of (list_in i.parts.logs c.args.txn)) = c.newest.ensures ∙ ap (λ (n : ℕ). option_map (λ (x : Logged). x.stamp) (newest_of (list_in i.parts.logs n))) c.txn.view_is in
+    let first : c.newest.result ≡ option_map (λ (x : LogRecord). x.stamp) (newest_of (list_in i.parts.logs c.args.txn)) = c.newest.ensures ∙ ap (λ (n : ℕ). option_map (λ (x : LogRecord). x.stamp) (newest_of (list_in i.parts.logs n))) c.txn.view_is in
     subst (λ (q : State). (x : Granted) × (undo_target posix_calls (history q) c.args.txn ≡ Found x) × (x.call.stamp ≡ c.in-Some.stamp)) (state-is c.self.view_is)
     (told-found call_laws lock_laws c.self.invariant.0 c.args.txn live c.newest.result c.last_sub-last_sub.result c.in-Some.stamp first c.in-Some.is c.last_sub-last_sub.ensures (λ q e. let same : c.in-Some-last_sub.sub ≡ q = same_some c.in-Some-last_sub.sub q (sym c.in-Some-last_sub.is ∙ e) in let lt = c.if-stamp-sub.false in omega arith))
 
@@ -40,7 +40,7 @@ returns-in_default-2-clause-found c =
     let i = c.self.inside in
     let s : State = state_of i.parts.forest i.journal in
     let live : fate_of s c.args.txn ≡ Some Live = ap (λ (q : State). fate_of q c.args.txn) (state-is c.self.view_is) ∙ c.requires in
-    let first : c.newest.result ≡ option_map (λ (x : Logged). x.stamp) (newest_of (list_in i.parts.logs c.args.txn)) = c.newest.ensures ∙ ap (λ (n : ℕ). option_map (λ (x : Logged). x.stamp) (newest_of (list_in i.parts.logs n))) c.txn.view_is in
+    let first : c.newest.result ≡ option_map (λ (x : LogRecord). x.stamp) (newest_of (list_in i.parts.logs c.args.txn)) = c.newest.ensures ∙ ap (λ (n : ℕ). option_map (λ (x : LogRecord). x.stamp) (newest_of (list_in i.parts.logs n))) c.txn.view_is in
     subst (λ (q : State). (x : Granted) × (undo_target posix_calls (history q) c.args.txn ≡ Found x) × (x.call.stamp ≡ c.in-Some.stamp)) (state-is c.self.view_is)
     (told-found call_laws lock_laws c.self.invariant.0 c.args.txn live c.newest.result c.last_sub-last_sub.result c.in-Some.stamp first c.in-Some.is c.last_sub-last_sub.ensures (λ q e. absurd (none_some q (sym c.in_default.is ∙ e))))
 
@@ -49,7 +49,7 @@ returns-in-Some-last_sub-2-clause-refused c =
     let i = c.self.inside in
     let s : State = state_of i.parts.forest i.journal in
     let live : fate_of s c.args.txn ≡ Some Live = ap (λ (q : State). fate_of q c.args.txn) (state-is c.self.view_is) ∙ c.requires in
-    let first : c.newest.result ≡ option_map (λ (x : Logged). x.stamp) (newest_of (list_in i.parts.logs c.args.txn)) = c.newest.ensures ∙ ap (λ (n : ℕ). option_map (λ (x : Logged). x.stamp) (newest_of (list_in i.parts.logs n))) c.txn.view_is in
+    let first : c.newest.result ≡ option_map (λ (x : LogRecord). x.stamp) (newest_of (list_in i.parts.logs c.args.txn)) = c.newest.ensures ∙ ap (λ (n : ℕ). option_map (λ (x : LogRecord). x.stamp) (newest_of (list_in i.parts.logs n))) c.txn.view_is in
     ap (λ (q : State). fault_of_target (undo_target posix_calls (history q) c.args.txn)) (sym (state-is c.self.view_is))
     ∙ told-since call_laws lock_laws c.self.invariant.0 c.args.txn live c.newest.result c.last_sub-last_sub.result c.in-Some-last_sub-2.field-0 first c.last_sub-last_sub.ensures c.in-Some-last_sub-2.is (λ n e. absurd (none_some n (sym c.in-None.is ∙ e)))
 
@@ -58,6 +58,6 @@ returns-in-None-last_sub-clause-refused c =
     let i = c.self.inside in
     let s : State = state_of i.parts.forest i.journal in
     let live : fate_of s c.args.txn ≡ Some Live = ap (λ (q : State). fate_of q c.args.txn) (state-is c.self.view_is) ∙ c.requires in
-    let first : c.newest.result ≡ option_map (λ (x : Logged). x.stamp) (newest_of (list_in i.parts.logs c.args.txn)) = c.newest.ensures ∙ ap (λ (n : ℕ). option_map (λ (x : Logged). x.stamp) (newest_of (list_in i.parts.logs n))) c.txn.view_is in
+    let first : c.newest.result ≡ option_map (λ (x : LogRecord). x.stamp) (newest_of (list_in i.parts.logs c.args.txn)) = c.newest.ensures ∙ ap (λ (n : ℕ). option_map (λ (x : LogRecord). x.stamp) (newest_of (list_in i.parts.logs n))) c.txn.view_is in
     ap (λ (q : State). fault_of_target (undo_target posix_calls (history q) c.args.txn)) (sym (state-is c.self.view_is))
     ∙ told-nothing call_laws lock_laws c.self.invariant.0 c.args.txn live c.newest.result c.last_sub-last_sub.result first c.in-None.is c.last_sub-last_sub.ensures c.in-None-last_sub.is

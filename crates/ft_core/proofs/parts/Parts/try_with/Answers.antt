@@ -6,7 +6,7 @@ use Rattle.ft_posix.specs.Accesses.{accesses_of}
 use Rattle.ft_posix.specs.Outcomes.{Outcome}
 use Rattle.ft_posix.specs.Stored.{outcome}
 use Rattle.ft_undo.proofs.Fresh.{no_bytes}
-use Rattle.ft_moss.specs.Locks.{AreBlockers}
+use Rattle.ft_lock_rules.specs.Locks.{AreBlockers}
 use Rattle.ft_core.specs.Makes.{IsMadeOn}
 use Rattle.ft_core.proofs.Known.{call_laws}
 use Rattle.ft_core.proofs.Tried.{leads-of, all-blockers, all-granted, made-with, known-made, known-unmade}

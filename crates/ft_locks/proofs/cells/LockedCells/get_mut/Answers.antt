@@ -2,7 +2,7 @@ use Rattle.std.proofs.Common.{Some, None, MutBor, Option, ap, sym, subst, ◌∙
 use mathlib.Core.Logic.{inr}
 use Rattle.std.specs.Option.{ghost_name_of, option_copied_mut}
 use borrow.Follows.Closed.{read_of}
-use Rattle.ft_moss.specs.Holders.{Owners}
+use Rattle.ft_lock_rules.specs.CellLocks.{Owners}
 use Rattle.ft_locks.specs.Slots.{AreKeyed, at_of, keys_in}
 use Rattle.ft_locks.specs.Hashes.{AreHashed}
 use Rattle.ft_locks.specs.Lending.{with_holders}

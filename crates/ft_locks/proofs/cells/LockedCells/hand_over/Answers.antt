@@ -3,11 +3,11 @@ use Rattle.std.specs.Option.{option_copied_mut}
 use Rattle.std.specs.FinMap as finite
 use Rattle.ft_cells.specs.declared.cell.Cell.{Cell}
 use Rattle.ft_cells.specs.CellOrder.{same_cell}
-use Rattle.ft_moss.specs.Holders.{handed}
-use Rattle.ft_moss.specs.Cells.{marks_at, after_hand, holders_of}
+use Rattle.ft_lock_rules.specs.CellLocks.{handed}
+use Rattle.ft_lock_rules.specs.Cells.{marks_at, after_hand, holders_of}
 use Rattle.ft_locks.proofs.Loans.{lent_somewhere}
 use Rattle.ft_locks.proofs.Slots.{some_and, changed_under}
-use Rattle.ft_moss.proofs.Places.{marks-found, in_table, changed_cell, got-handed, hand_same}
+use Rattle.ft_lock_rules.proofs.Places.{marks-found, in_table, changed_cell, got-handed, hand_same}
 use Rattle.ft_locks.proofs.cells.LockedCells.hand_over.Goals as goal
 
 pub unwrap-holders-requires : goal.unwrap-holders-requires

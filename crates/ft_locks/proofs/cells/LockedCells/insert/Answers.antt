@@ -2,7 +2,7 @@ use Rattle.std.proofs.Common.{cond, Some, ap, sym, ◌∙◌}
 use Rattle.std.specs.FinMap as finite
 use Rattle.slab.specs.Slab.{Slab, get}
 use Rattle.ft_locks.specs.declared.cells.Locked.{Locked}
-use Rattle.ft_moss.specs.Cells.{Keyed}
+use Rattle.ft_lock_rules.specs.Cells.{Keyed}
 use Rattle.ft_locks.specs.EntryKeys.{key_at, is_spot, spot_of}
 use Rattle.ft_locks.specs.Slots.{at_of, keys_in, is_names}
 use Rattle.ft_locks.proofs.Slots.{at-none, at-put, cells-put, no_key, updates-after}

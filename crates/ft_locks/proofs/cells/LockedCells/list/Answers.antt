@@ -1,8 +1,8 @@
 use Rattle.std.proofs.Common.{ap, ◌∙◌, ◌+◌}
 use Rattle.std.proofs.lemmas.Result.{on_ok_weaker}
-use Rattle.ft_moss.specs.Cells.{Keyed}
-use Rattle.ft_moss.specs.Seen.{has_line}
-use Rattle.ft_moss.specs.Listing.{times_listed, once}
+use Rattle.ft_lock_rules.specs.Cells.{Keyed}
+use Rattle.ft_lock_rules.specs.Seen.{has_line}
+use Rattle.ft_lock_rules.specs.Listing.{times_listed, once}
 use Rattle.ft_locks.proofs.Listed.{on_cells}
 use Rattle.ft_locks.specs.Slots.{at_of, keys_in}
 use Rattle.ft_locks.proofs.cells.LockedCells.list.Goals as goal

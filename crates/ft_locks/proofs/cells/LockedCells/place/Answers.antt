@@ -2,11 +2,11 @@ use Rattle.std.proofs.Common.{Some, cond, ◌==◌, ap, sym, ◌∙◌}
 use Rattle.std.specs.Option.{option_copied_mut}
 use Rattle.std.specs.Ordering.{nat_cmp}
 use Rattle.std.specs.FinMap as finite
-use Rattle.ft_moss.specs.Cells.{marks_at, holders_of}
+use Rattle.ft_lock_rules.specs.Cells.{marks_at, holders_of}
 use Rattle.ft_locks.specs.Lending.{with_holders_of, with_holders}
-use Rattle.ft_moss.proofs.Cases.{on_any}
+use Rattle.ft_lock_rules.proofs.Cases.{on_any}
 use Rattle.ft_locks.proofs.Slots.{there_if, put-there, put-others, back_under}
-use Rattle.ft_moss.proofs.Places.{marks-found, marks-missing, changed_at, got-inserted}
+use Rattle.ft_lock_rules.proofs.Places.{marks-found, marks-missing, changed_at, got-inserted}
 use Rattle.ft_locks.proofs.cells.LockedCells.place.Goals as goal
 
 pub returns-in_err-had-clause-err : goal.returns-in_err-had-clause-err

@@ -1,6 +1,6 @@
 use Rattle.std.proofs.Common.{None, Some, ap, sym, refl, ◌∙◌}
 use Rattle.std.specs.FinMap as finite
-use Rattle.ft_moss.specs.Cells.{Keyed}
+use Rattle.ft_lock_rules.specs.Cells.{Keyed}
 use Rattle.ft_locks.specs.EntryKeys.{spot_of}
 use Rattle.ft_locks.specs.Slots.{at_of, keys_in, cells_of}
 use Rattle.ft_locks.proofs.Slots.{seen-at, at-there, at-out, at-shown, cells-out, cells-shown}

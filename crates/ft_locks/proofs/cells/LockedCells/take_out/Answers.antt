@@ -2,11 +2,11 @@ use Rattle.std.proofs.Common.{◌≡◌, ℕ, None, IsSome, refl, cond, ◌==◌
 use Rattle.std.specs.Option.{option_copied_mut}
 use Rattle.std.specs.FinMap as finite
 use Rattle.ft_cells.specs.declared.cell.Cell.{Cell}
-use Rattle.ft_moss.specs.Cells.{marks_at, is_at, holders_of}
+use Rattle.ft_lock_rules.specs.Cells.{marks_at, is_at, holders_of}
 use Rattle.ft_locks.specs.Lending.{with_holders_of}
 use Rattle.ft_locks.proofs.Loans.{lent_somewhere}
 use Rattle.ft_locks.proofs.Slots.{some_and, changed_under, known_if, if_known, out-others}
-use Rattle.ft_moss.proofs.Places.{marks-found, in_table, changed_at, got-removed, put_back, last_out, last_gone, at_itself}
+use Rattle.ft_lock_rules.proofs.Places.{marks-found, in_table, changed_at, got-removed, put_back, last_out, last_gone, at_itself}
 use Rattle.ft_locks.proofs.cells.LockedCells.take_out.Goals as goal
 
 pub unwrap-holders-requires : goal.unwrap-holders-requires

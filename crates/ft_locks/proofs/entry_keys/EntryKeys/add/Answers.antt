@@ -1,7 +1,7 @@
 use Rattle.std.proofs.Common.{◌==◌, ◌&&◌, ◌++◌, ◌∷◌, [], length, cond, Some, None, ap, sym, ◌∙◌}
 use Rattle.std.specs.List.{slice_get}
 use Rattle.ft_locks.specs.EntryKeys.{listed_keys, key_at}
-use Rattle.ft_moss.proofs.Cases.{on_any}
+use Rattle.ft_lock_rules.proofs.Cases.{on_any}
 use Rattle.ft_locks.proofs.EntryKeys.{list-changed, both_same, both_tests, get-pushed, get-past}
 use Rattle.ft_locks.proofs.entry_keys.EntryKeys.add.Goals as goal
 

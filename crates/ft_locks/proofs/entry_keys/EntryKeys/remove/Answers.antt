@@ -3,7 +3,7 @@ use Rattle.std.proofs.lemmas.Bool.{eqb-true}
 use Rattle.std.specs.List.{slice_get}
 use Rattle.std.specs.Option.{option_copied_mut}
 use Rattle.ft_locks.specs.EntryKeys.{listed_keys, key_at}
-use Rattle.ft_moss.proofs.Cases.{none_if, some_if}
+use Rattle.ft_lock_rules.proofs.Cases.{none_if, some_if}
 use Rattle.ft_locks.proofs.EntryKeys.{list-changed, list-dropped, both_tests, nested_tests, found-at, slice_within, got-last, got-moved, got-others}
 use Rattle.ft_locks.proofs.entry_keys.EntryKeys.remove.Goals as goal
 

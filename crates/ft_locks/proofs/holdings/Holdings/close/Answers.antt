@@ -1,9 +1,9 @@
 use Rattle.std.proofs.Common.{[], ap, sym, refl, ◌∙◌}
 use Rattle.std.specs.FinMap as finite
-use Rattle.ft_base.specs.Chains.{list_in}
-use Rattle.ft_moss.specs.Holdings.{Held, lists_under}
-use Rattle.ft_moss.proofs.Joining.{list-remove, list_again, joined-same}
-use Rattle.ft_moss.proofs.Under.{list-under, remove-under, none-under, used-closed}
+use Rattle.ft_base.specs.OwnedLists.{list_in}
+use Rattle.ft_lock_rules.specs.Holdings.{Held, lists_under}
+use Rattle.ft_lock_rules.proofs.Joining.{list-remove, list_again, joined-same}
+use Rattle.ft_lock_rules.proofs.Under.{list-under, remove-under, none-under, used-closed}
 use Rattle.ft_locks.proofs.holdings.Holdings.close.Goals as goal
 
 pub close-requires : goal.close-requires

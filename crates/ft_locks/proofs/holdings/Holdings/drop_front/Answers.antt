@@ -1,14 +1,14 @@
 use Rattle.std.proofs.Common.{ℕ, cond, None, IsSome, is_some, ◌∷◌, ap, sym, ◌∙◌, drop}
 use Rattle.std.specs.FinMap as finite
 use Rattle.std.proofs.lemmas.Option.{IfSome_then}
-use Rattle.ft_base.specs.Chains.{list_in}
-use Rattle.ft_moss.specs.Cells.{is_at, marks_at}
-use Rattle.ft_moss.specs.Holdings.{Held, has_place, cells_under, lists_under}
-use Rattle.ft_moss.proofs.Cases.{none_any, none_then}
+use Rattle.ft_base.specs.OwnedLists.{list_in}
+use Rattle.ft_lock_rules.specs.Cells.{is_at, marks_at}
+use Rattle.ft_lock_rules.specs.Holdings.{Held, has_place, cells_under, lists_under}
+use Rattle.ft_lock_rules.proofs.Cases.{none_any, none_then}
 use Rattle.ft_locks.proofs.Slots.{if_known, and_some}
-use Rattle.ft_moss.proofs.Paired.{the_one}
-use Rattle.ft_moss.proofs.Joining.{first_is, none_first, none_placed, joined-drop, placed-out, list-insert, list_there}
-use Rattle.ft_moss.proofs.Under.{list-under, insert-under, front, kept-under, joined-kept, used-same, used-insert}
+use Rattle.ft_lock_rules.proofs.Paired.{the_one}
+use Rattle.ft_lock_rules.proofs.Joining.{first_is, none_first, none_placed, joined-drop, placed-out, list-insert, list_there}
+use Rattle.ft_lock_rules.proofs.Under.{list-under, insert-under, front, kept-under, joined-kept, used-same, used-insert}
 use Rattle.ft_locks.proofs.holdings.Holdings.drop_front.Goals as goal
 
 pub take_out-freed-requires : goal.take_out-freed-requires

@@ -1,11 +1,11 @@
 use Rattle.std.proofs.Common.{◌+◌, length, drop, IsSome, is_some, ap, sym, ◌∙◌, add-one}
 use Rattle.std.specs.FinMap as finite
-use Rattle.ft_base.specs.Chains.{list_in}
-use Rattle.ft_moss.specs.Cells.{marks_at}
-use Rattle.ft_moss.specs.Holdings.{Held, cells_under, lists_under}
+use Rattle.ft_base.specs.OwnedLists.{list_in}
+use Rattle.ft_lock_rules.specs.Cells.{marks_at}
+use Rattle.ft_lock_rules.specs.Holdings.{Held, cells_under, lists_under}
 use Rattle.ft_locks.proofs.Slots.{if_known, and_some}
-use Rattle.ft_moss.proofs.Joining.{first_is, none_first, list_there, list_elsewhere, open_if_listed, still-insert, still-twice, joined-merged, joined-moved, none_placed, popped_is, moved_is}
-use Rattle.ft_moss.proofs.Under.{open-under, list-under, popped-under, moved-under, front, joined-with, used-same, used-insert}
+use Rattle.ft_lock_rules.proofs.Joining.{first_is, none_first, list_there, list_elsewhere, open_if_listed, still-insert, still-twice, joined-merged, joined-moved, none_placed, popped_is, moved_is}
+use Rattle.ft_lock_rules.proofs.Under.{open-under, list-under, popped-under, moved-under, front, joined-with, used-same, used-insert}
 use Rattle.ft_locks.proofs.holdings.Holdings.hand_front.Goals as goal
 
 pub returns-in_default-clause-done : goal.returns-in_default-clause-done

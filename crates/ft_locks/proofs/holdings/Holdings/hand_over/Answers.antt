@@ -1,7 +1,7 @@
 use Rattle.std.proofs.Common.{sym, ap, ◌∙◌}
-use Rattle.ft_base.specs.Chains.{list_in}
-use Rattle.ft_moss.specs.Holdings.{Held, cells_under}
-use Rattle.ft_moss.proofs.Under.{list-under}
+use Rattle.ft_base.specs.OwnedLists.{list_in}
+use Rattle.ft_lock_rules.specs.Holdings.{Held, cells_under}
+use Rattle.ft_lock_rules.proofs.Under.{list-under}
 use Rattle.ft_locks.proofs.holdings.Holdings.hand_over.Goals as goal
 
 pub hand_whole-requires-clause-none : goal.hand_whole-requires-clause-none

@@ -1,8 +1,8 @@
 use Rattle.std.proofs.Common.{◌≡◌, ℕ, length}
-use Rattle.ft_base.specs.Chains.{list_in}
+use Rattle.ft_base.specs.OwnedLists.{list_in}
 use Rattle.ft_cells.specs.declared.cell.Cell.{Cell}
-use Rattle.ft_moss.specs.Cells.{marks_at, after_hand}
-use Rattle.ft_moss.specs.Holdings.{AreOpenStill}
+use Rattle.ft_lock_rules.specs.Cells.{marks_at, after_hand}
+use Rattle.ft_lock_rules.specs.Holdings.{AreOpenStill}
 use Rattle.ft_locks.proofs.holdings.Holdings.hand_over.Given as goal
 
 abbrev pub invariant-loop : goal.invariant-loop

@@ -1,11 +1,11 @@
 use Rattle.std.proofs.Common.{is_some, ap, sym, subst, ◌∙◌}
 use Rattle.std.specs.List.{list_any}
 use Rattle.std.specs.FinMap as finite
-use Rattle.ft_base.specs.Chains.{list_in}
+use Rattle.ft_base.specs.OwnedLists.{list_in}
 use Rattle.ft_cells.specs.CellOrder.{same_cell}
-use Rattle.ft_moss.specs.Holdings.{Held, AreSingle, AreUsed, cells_under, lists_under}
-use Rattle.ft_moss.proofs.Whole.{whole_gone, whole_still, joined-whole}
-use Rattle.ft_moss.proofs.Under.{open-under, list-under, spliced-under, joined-with, used-same, used-spliced}
+use Rattle.ft_lock_rules.specs.Holdings.{Held, AreSingle, AreUsed, cells_under, lists_under}
+use Rattle.ft_lock_rules.proofs.Whole.{whole_gone, whole_still, joined-whole}
+use Rattle.ft_lock_rules.proofs.Under.{open-under, list-under, spliced-under, joined-with, used-same, used-spliced}
 use Rattle.ft_locks.proofs.holdings.Holdings.hand_whole.Goals as goal
 
 pub hand_all-requires-clause-used : goal.hand_all-requires-clause-used

@@ -1,7 +1,7 @@
 use Rattle.std.proofs.Common.{sym, ap, ◌∙◌}
 use Rattle.std.specs.FinMap as finite
-use Rattle.ft_moss.specs.Holdings.{Held}
-use Rattle.ft_moss.proofs.Under.{open-under}
+use Rattle.ft_lock_rules.specs.Holdings.{Held}
+use Rattle.ft_lock_rules.proofs.Under.{open-under}
 use Rattle.ft_locks.proofs.holdings.Holdings.is_open.Goals as goal
 
 pub returns : goal.returns

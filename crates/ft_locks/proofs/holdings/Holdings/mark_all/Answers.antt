@@ -1,5 +1,5 @@
 use Rattle.std.proofs.Common.{◌∙◌}
-use Rattle.ft_moss.proofs.Granting.{marked_lines, marked_place}
+use Rattle.ft_lock_rules.proofs.Granting.{marked_lines, marked_place}
 use Rattle.ft_locks.proofs.holdings.Holdings.mark_all.Goals as goal
 
 pub loop-access-preserved : goal.loop-access-preserved

@@ -1,9 +1,9 @@
 use Rattle.std.proofs.Common.{◌≡◌, ◌==◌, ◌&&◌, ◌||◌, ℕ, take}
 use Rattle.ft_cells.specs.declared.cell.Cell.{Cell}
-use Rattle.ft_moss.specs.declared.line.LockLine.{LockLine}
-use Rattle.ft_moss.specs.Locks.{is_held, has_access}
-use Rattle.ft_moss.specs.Seen.{has_line}
-use Rattle.ft_moss.specs.Holdings.{has_place}
+use Rattle.ft_lock_rules.specs.declared.line.LockLine.{LockLine}
+use Rattle.ft_lock_rules.specs.Locks.{is_held, has_access}
+use Rattle.ft_lock_rules.specs.Seen.{has_line}
+use Rattle.ft_lock_rules.specs.Holdings.{has_place}
 use Rattle.ft_locks.proofs.holdings.Holdings.mark_all.Given as goal
 
 abbrev pub invariant-loop-access : goal.invariant-loop-access

@@ -1,6 +1,6 @@
-use Rattle.ft_moss.specs.Holdings.{lists_under}
-use Rattle.ft_moss.proofs.Joining.{joined-none}
-use Rattle.ft_moss.proofs.Under.{empty-under, used-none}
+use Rattle.ft_lock_rules.specs.Holdings.{lists_under}
+use Rattle.ft_lock_rules.proofs.Joining.{joined-none}
+use Rattle.ft_lock_rules.proofs.Under.{empty-under, used-none}
 use Rattle.ft_locks.proofs.holdings.Holdings.new.Goals as goal
 
 pub invariant_of-result : goal.invariant_of-result

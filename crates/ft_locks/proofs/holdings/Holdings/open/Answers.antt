@@ -1,10 +1,10 @@
 use Rattle.std.proofs.Common.{refl, sym, ap, subst, ◌∙◌}
 use Rattle.std.specs.FinMap as finite
-use Rattle.ft_base.specs.Chains.{list_in}
-use Rattle.ft_moss.specs.Holdings.{Held, AreUsed, cells_under, lists_under}
-use Rattle.ft_moss.proofs.Cases.{ok_then, err_then}
-use Rattle.ft_moss.proofs.Joining.{joined-same, opened_lists}
-use Rattle.ft_moss.proofs.Under.{list-under, insert-under}
+use Rattle.ft_base.specs.OwnedLists.{list_in}
+use Rattle.ft_lock_rules.specs.Holdings.{Held, AreUsed, cells_under, lists_under}
+use Rattle.ft_lock_rules.proofs.Cases.{ok_then, err_then}
+use Rattle.ft_lock_rules.proofs.Joining.{joined-same, opened_lists}
+use Rattle.ft_lock_rules.proofs.Under.{list-under, insert-under}
 use Rattle.ft_locks.proofs.holdings.Holdings.open.Goals as goal
 
 pub invariant_of-self : goal.invariant_of-self

@@ -1,9 +1,9 @@
 use Rattle.std.proofs.Common.{ℕ, Ok, refl, sym, ap, subst, ◌∙◌}
 use Rattle.std.specs.FinMap as finite
-use Rattle.ft_base.specs.Chains.{list_in}
-use Rattle.ft_moss.specs.Holdings.{Held, AreUsed, cells_under, lists_under}
-use Rattle.ft_moss.proofs.Joining.{joined-same, opened_lists}
-use Rattle.ft_moss.proofs.Under.{list-under, insert-under, open-under}
+use Rattle.ft_base.specs.OwnedLists.{list_in}
+use Rattle.ft_lock_rules.specs.Holdings.{Held, AreUsed, cells_under, lists_under}
+use Rattle.ft_lock_rules.proofs.Joining.{joined-same, opened_lists}
+use Rattle.ft_lock_rules.proofs.Under.{list-under, insert-under, open-under}
 use Rattle.ft_locks.proofs.holdings.Holdings.open_zero.Goals as goal
 
 pub open_zero-requires : goal.open_zero-requires

@@ -1,11 +1,11 @@
 use Rattle.std.proofs.Common.{IsSome, is_some, ◌∷◌, ap, sym, ◌∙◌}
 use Rattle.std.specs.FinMap as finite
-use Rattle.ft_base.specs.Chains.{list_in}
-use Rattle.ft_moss.specs.Cells.{is_at, marks_at}
-use Rattle.ft_moss.specs.Holdings.{Held, has_place, lists_under}
+use Rattle.ft_base.specs.OwnedLists.{list_in}
+use Rattle.ft_lock_rules.specs.Cells.{is_at, marks_at}
+use Rattle.ft_lock_rules.specs.Holdings.{Held, has_place, lists_under}
 use Rattle.ft_locks.proofs.Slots.{if_known, and_some}
-use Rattle.ft_moss.proofs.Joining.{joined-same, joined-add, placed-put, placed_there, placed_back, none_had, list-insert, ok_if, err_if}
-use Rattle.ft_moss.proofs.Under.{open-under, added-under, kept-under, kept-used, joined-kept, used-same, used-insert}
+use Rattle.ft_lock_rules.proofs.Joining.{joined-same, joined-add, placed-put, placed_there, placed_back, none_had, list-insert, ok_if, err_if}
+use Rattle.ft_lock_rules.proofs.Under.{open-under, added-under, kept-under, kept-used, joined-kept, used-same, used-insert}
 use Rattle.ft_locks.proofs.holdings.Holdings.place.Goals as goal
 
 pub push_front-requires : goal.push_front-requires

@@ -2,12 +2,12 @@ use Rattle.std.proofs.Common.{◌==◌, ◌&&◌, ◌||◌, take, arith, ap, sym
 use Rattle.std.proofs.lemmas.Bool.{and_parts, eqb-true}
 use Rattle.std.specs.FinMap as finite
 use Rattle.ft_cells.specs.CellOrder.{same_cell, same_cell-is}
-use Rattle.ft_moss.specs.declared.line.LockLine.{LockLine}
-use Rattle.ft_moss.specs.Locks.{is_held, same_mode, is_accessed, is_given}
-use Rattle.ft_moss.specs.Holdings.{has_place, after_back}
-use Rattle.ft_moss.specs.Seen.{has_line}
-use Rattle.ft_moss.proofs.CellViews.{turned_cell}
-use Rattle.ft_moss.proofs.Granting.{added_back, added_line, added_place, added_still, accessed_more, given_more, lines_kept, lines_made, line_there, in_either, in_place, or_with, place_kept, place_made, some-placed}
+use Rattle.ft_lock_rules.specs.declared.line.LockLine.{LockLine}
+use Rattle.ft_lock_rules.specs.Locks.{is_held, same_mode, is_accessed, is_given}
+use Rattle.ft_lock_rules.specs.Holdings.{has_place, after_back}
+use Rattle.ft_lock_rules.specs.Seen.{has_line}
+use Rattle.ft_lock_rules.proofs.CellViews.{turned_cell}
+use Rattle.ft_lock_rules.proofs.Granting.{added_back, added_line, added_place, added_still, accessed_more, given_more, lines_kept, lines_made, line_there, in_either, in_place, or_with, place_kept, place_made, some-placed}
 use Rattle.ft_locks.proofs.holdings.Holdings.reserve.Goals as goal
 
 pub loop-access-preserved-in-Some : goal.loop-access-preserved-in-Some

@@ -1,10 +1,10 @@
 use Rattle.std.proofs.Common.{◌≡◌, ◌==◌, ◌&&◌, ◌||◌, ◌≤◌, ℕ, true, take}
 use Rattle.ft_cells.specs.declared.cell.Cell.{Cell}
-use Rattle.ft_moss.specs.declared.line.LockLine.{LockLine}
-use Rattle.ft_moss.specs.Cells.{marks_at}
-use Rattle.ft_moss.specs.Locks.{is_accessed, is_given}
-use Rattle.ft_moss.specs.Seen.{has_line}
-use Rattle.ft_moss.specs.Holdings.{AreOpenStill, after_back, has_place}
+use Rattle.ft_lock_rules.specs.declared.line.LockLine.{LockLine}
+use Rattle.ft_lock_rules.specs.Cells.{marks_at}
+use Rattle.ft_lock_rules.specs.Locks.{is_accessed, is_given}
+use Rattle.ft_lock_rules.specs.Seen.{has_line}
+use Rattle.ft_lock_rules.specs.Holdings.{AreOpenStill, after_back, has_place}
 use Rattle.ft_locks.proofs.holdings.Holdings.reserve.Given as goal
 
 abbrev pub invariant-loop-access : goal.invariant-loop-access

@@ -1,6 +1,6 @@
 use Rattle.std.proofs.Common.{◌≡◌, ℕ}
 use Rattle.ft_cells.specs.declared.cell.Cell.{Cell}
-use Rattle.ft_moss.specs.Holdings.{AreOpenStill, after_back}
+use Rattle.ft_lock_rules.specs.Holdings.{AreOpenStill, after_back}
 use Rattle.ft_locks.proofs.holdings.Holdings.take_back.Given as goal
 
 abbrev pub invariant-loop-count : goal.invariant-loop-count

@@ -1,7 +1,7 @@
 use Rattle.std.proofs.Common.{◌≡◌, ℕ, take}
 use Rattle.std.specs.List.{list_any}
 use Rattle.std.specs.FinMap as finite
-use Rattle.ft_moss.specs.Blocking.{against, blocks}
+use Rattle.ft_lock_rules.specs.Blocking.{against, blocks}
 use Rattle.ft_locks.proofs.locks.Locks.blockers.Given as goal
 
 abbrev pub invariant-loop-access : goal.invariant-loop-access

@@ -4,7 +4,7 @@ use Rattle.ft_cells.specs.declared.cell.Cell.TheVariants.{Parent}
 use Rattle.ft_cells.specs.Looks.{Looks, Answer, Look, answer}
 use Rattle.ft_tree.specs.Views.{view_of}
 use Rattle.ft_posix.specs.Links.{climb}
-use Rattle.ft_posix.specs.Looking.{noted, Finds, look_at}
+use Rattle.ft_posix.specs.Looking.{noted, Observes, look_at}
 use Rattle.ft_posix.proofs.Looking.{noted-then, answer-on}
 use Rattle.ft_looks.proofs.look.Look.climb.Goals as goal
 
@@ -16,9 +16,9 @@ climb-up n left i d is other below =
 
 pub loop-preserved : goal.loop-preserved
 loop-preserved c =
-    let n = c.stored_dirs-end.result - (c.loop.counter + 1) in
-    let on = climb-up n (c.stored_dirs-end.result - c.loop.counter) c.args.moved c.loop.at (omega (arith, c.loop-test.true)) (search rules) (search rules) in
-    let found : Finds c.loop.self (look_at (Parent c.loop.at)) c.parent.new.self (Ok c.in_ok-parent.field-0) = (c.in_ok-parent.ensures.parent, c.in_ok-parent.ensures.noted) in
+    let n = c.directory_count-end.result - (c.loop.counter + 1) in
+    let on = climb-up n (c.directory_count-end.result - c.loop.counter) c.args.moved c.loop.at (omega (arith, c.loop-test.true)) (search rules) (search rules) in
+    let found : Observes c.loop.self (look_at (Parent c.loop.at)) c.parent.new.self (Ok c.in_ok-parent.field-0) = (c.in_ok-parent.ensures.parent, c.in_ok-parent.ensures.noted) in
     let go : Option ℕ → Looks Bool = λ p. climb n c.args.moved (unwrap_or p 1) in
     record {
       noted =

@@ -39,9 +39,9 @@ returns-clause-ok c = λ given n all was none.
           (walk-granted base sound (first core reached (n + old.passed) e (at e a.is)) given n old new was none one a.stamp a.txn a.call a.reply a.accesses legal (ap (λ (x : Walk). x.undone) w.self-is)
           (λ t.
           ap (λ (x : Walk). calls_in x.under t) w.self-is ∙ w.in_ok-push_call-in-Call.ensures.ok t
-          ∙ ap (λ (k : CallOf). cond (t == w.way_up-top.result.top) (calls_in old.under t ++ record { txn = a.txn; call = record { stamp = a.stamp; call = k } } ∷ []) (calls_in old.under t)) w.in_ok-call-in-Call.ensures
+          ∙ ap (λ (k : CallOf). cond (t == w.find_top-top.result.top) (calls_in old.under t ++ record { txn = a.txn; call = record { stamp = a.stamp; call = k } } ∷ []) (calls_in old.under t)) w.in_ok-call-in-Call.ensures
           ∙ ap (λ (n : ℕ). cond (t == n) (calls_in old.under t ++ asked (granted a.stamp a.txn a.call a.reply a.accesses) ∷ []) (calls_in old.under t))
-          (w.way_up-top.ensures.top ∙ same-top core reached (n + old.passed) e (at e a.is) a.txn (lived posix_calls core.state.base.last_txn (told (first core reached (n + old.passed) e (at e a.is))) a.txn legal.0.live).begun))
+          (w.find_top-top.ensures.top ∙ same-top core reached (n + old.passed) e (at e a.is) a.txn (lived posix_calls core.state.base.last_txn (told (first core reached (n + old.passed) e (at e a.is))) a.txn legal.0.live).begun))
           (ap (λ (x : Walk). x.closing.items) w.self-is ∙ none))
       | in-Undo+in_ok-insert-in-Undo w ↦
           let a = w.in-Undo in

@@ -12,5 +12,5 @@ invariant_of-self-in-Ok g c =
     let told_is : old.told.calls ≡ old.fed.calls ++ call ∷ [] =
     subst (λ (p : Publishing). p.told ≡ p.fed ++ listed p.held) (sym c.self.view_is) c.requires ∙ ap (λ (h : Option StampedCall). old.fed.calls ++ listed h) held_is in
     rw (c.again.ensures, c.in-Ok.ensures.desk, c.in-Some.ensures.after)
-    (given_on g.J.Naming.opened g.J.Naming.shows old.book old.writer.desk.shown.value old.writer.behind c.append.new.self.behind old.writer.log.items c.append.new.self.log.items old.fed old.told old.held
+    (given_on g.J.ViewsBrand.opened g.J.ViewsBrand.shows old.book old.writer.desk.shown.value old.writer.behind c.append.new.self.behind old.writer.log.items c.append.new.self.log.items old.fed old.told old.held
     (record { call = call; front = c.again-front.result }) old.commits c.self.invariant held_is c.in-Ok.ensures.pending c.again-front.ensures told_is)

@@ -10,7 +10,7 @@ pub invariant_of-self : goal.invariant_of-self
 invariant_of-self g c =
     let old = c.self.inside in
     let new = c.forget.new.self in
-    not_taken g.J.Naming.opened g.J.Naming.shows old.book old.writer.desk.shown.value old.writer.behind old.writer.log.items old.fed old.told old.held old.commits new
+    not_taken g.J.ViewsBrand.opened g.J.ViewsBrand.shows old.book old.writer.desk.shown.value old.writer.behind old.writer.log.items old.fed old.told old.held old.commits new
     c.self.invariant c.forget.ensures.given
     (subst (λ (es : List Event). IsPrefix new.given (committed_in es)) (sym c.forget.ensures.events)
     (subst (λ (calls : List StampedCall). IsPrefix calls (committed_in old.commits.events)) (sym c.forget.ensures.given) c.self.invariant.stands))

@@ -9,4 +9,4 @@ pub returns : goal.returns
 returns g c =
     let p = c.self.inside in
     subst (λ (v : Publishing). IsPrefix v.published (committed_in v.commits.events)) c.self.view_is
-    (stands_by g.J.Naming.opened g.J.Naming.shows p.book p.writer.desk.shown.value p.writer.behind p.writer.log.items p.fed p.told p.held p.commits c.self.invariant)
+    (stands_by g.J.ViewsBrand.opened g.J.ViewsBrand.shows p.book p.writer.desk.shown.value p.writer.behind p.writer.log.items p.fed p.told p.held p.commits c.self.invariant)

@@ -4,7 +4,7 @@ use Rattle.ft_waits.specs.Edges.{AreEdgesOf}
 use Rattle.ft_core.specs.States.{StoredState}
 use Rattle.ft_core.specs.Reached.{IsReached}
 use Rattle.ft_record.specs.Going.{GoesOn}
-use Rattle.ft_shared.specs.Behind.{OfCoreFrom}
+use Rattle.ft_shared.specs.Guarded.{OfCoreFrom}
 use Rattle.ft_shared.specs.Publishing.{Backed}
 use Rattle.ft_shared.proofs.shared.Shared.list_edges.Goals as goal
 

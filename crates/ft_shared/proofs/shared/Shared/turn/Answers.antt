@@ -2,7 +2,7 @@ use Rattle.std.proofs.Common.{subst}
 use Rattle.ft_posix.specs.declared.call.Call.{Call}
 use Rattle.ft_core.specs.declared.request.Request.TheVariants.{Ask}
 use Rattle.ft_core.specs.Steps.{IsStep, exact_rule, answer_with, outcome_answer}
-use Rattle.ft_shared.specs.Behind.{InCoreFrom}
+use Rattle.ft_shared.specs.Guarded.{InCoreFrom}
 use Rattle.ft_shared.proofs.shared.Shared.turn.Goals as goal
 
 pub returns-in-Ok : goal.returns-in-Ok

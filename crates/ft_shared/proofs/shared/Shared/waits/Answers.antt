@@ -2,7 +2,7 @@ use Rattle.std.proofs.Common.{List, sym, subst}
 use Rattle.std.proofs.lemmas.Result.{IfOk-weaker}
 use Rattle.ft_waits.specs.declared.edge.Edge.{Edge}
 use Rattle.ft_waits.specs.Edges.{AreEdgesOf}
-use Rattle.ft_shared.specs.Behind.{OfCoreFrom}
+use Rattle.ft_shared.specs.Guarded.{OfCoreFrom}
 use Rattle.ft_shared.proofs.shared.Shared.waits.Goals as goal
 
 pub returns-clause-edges : goal.returns-clause-edges

@@ -1,6 +1,6 @@
 use Rattle.std.proofs.Common.{refl, ap, subst, ◌∙◌}
-use Rattle.ft_base.specs.Chains.{Lists, list_in}
-use Rattle.ft_undo.specs.declared.logs.Logged.{Logged}
+use Rattle.ft_base.specs.OwnedLists.{Lists, list_in}
+use Rattle.ft_undo.specs.declared.logs.LogRecord.{LogRecord}
 use Rattle.ft_undo.specs.Logs.{is_open, AreLists}
 use Rattle.ft_posix.proofs.Setting.{setting}
 use Rattle.ft_posix.proofs.Restoring.{restoring}
@@ -14,12 +14,12 @@ unwrap-logged-requires c = newest-there c.self.inside.chains c.push_front.new.se
 
 pub fill-requires-clause-empty : goal.fill-requires-clause-empty
 fill-requires-clause-empty c =
-    ap (λ (l : Logged). l.undo) (newest-is c.self.inside.chains c.push_front.new.self c.args.txn _ c.in_default.ensures.ok c.first_mut.result c.unwrap-logged.result c.first_mut.ensures.value c.unwrap-logged.ensures) ∙ c.new-undo.ensures
+    ap (λ (l : LogRecord). l.undo) (newest-is c.self.inside.chains c.push_front.new.self c.args.txn _ c.in_default.ensures.ok c.first_mut.result c.unwrap-logged.result c.first_mut.ensures.value c.unwrap-logged.ensures) ∙ c.new-undo.ensures
 
 pub returns-in-Err-fill-clause-kept : goal.returns-in-Err-fill-clause-kept
 returns-in-Err-fill-clause-kept c =
     let there = ap (λ m. is_open m c.args.txn) c.self.view_is ∙ c.requires.open in
-    subst (λ (m : Lists Logged). AreLists c.take_last.new.self (list_in m)) c.self.view_is
+    subst (λ (m : Lists LogRecord). AreLists c.take_last.new.self (list_in m)) c.self.view_is
     (dropped-lists c.self.inside.chains c.push_front.new.self c.args.txn _ c.in_default.ensures.ok there _ _ refl c.take_last.new.self c.take_last.ensures.lists)
 
 pub returns-in-Err-fill-clause-opened : goal.returns-in-Err-fill-clause-opened
@@ -39,7 +39,7 @@ returns-clause-made c =
     let cells = c.in_default-fill.ensures.0 in
     let backs = c.in_default-fill.ensures.1 in
     let there = ap (λ m. is_open m c.args.txn) c.self.view_is ∙ c.requires.open in
-    let stamp = ap (λ (l : Logged). l.stamp) (newest-is c.self.inside.chains c.push_front.new.self c.args.txn _ c.in_default.ensures.ok c.first_mut.result c.unwrap-logged.result c.first_mut.ensures.value c.unwrap-logged.ensures) in
+    let stamp = ap (λ (l : LogRecord). l.stamp) (newest-is c.self.inside.chains c.push_front.new.self c.args.txn _ c.in_default.ensures.ok c.first_mut.result c.unwrap-logged.result c.first_mut.ensures.value c.unwrap-logged.ensures) in
     record {
       cells = made editing setting old edits c.requires.apart c.fill.new.tree c.fill.new.self cells backs;
       left = left editing setting old edits c.requires.apart c.fill.new.tree c.fill.new.self cells backs c.requires.places;

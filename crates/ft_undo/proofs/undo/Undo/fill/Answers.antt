@@ -1,7 +1,7 @@
 use Rattle.std.proofs.Common.{◌≡◌, ◌++◌, [], ◌∷◌, suc, length, slice_get, arith, sym, ap, subst, ◌∙◌}
 use Rattle.std.proofs.lemmas.Option.{slice_get_within}
 use Rattle.ft_cells.specs.Cells.{Cells}
-use Rattle.ft_undo.specs.declared.undo.Back.{Back}
+use Rattle.ft_undo.specs.declared.undo.BeforeImage.{BeforeImage}
 use Rattle.ft_undo.specs.Undone.{restored, CanRestoreAll}
 use Rattle.ft_posix.proofs.Setting.{setting}
 use Rattle.ft_posix.proofs.Restoring.{restoring}
@@ -37,7 +37,7 @@ loop-edit-preserved c =
     record {
       on =
           next-made c.args.tree.now all c.loop-edit.tree backs c.loop-edit.invariant.on c.in-Some.edit.now next c.set.new.tree c.push_reserved.new.self.items c.in-Ok.ensures.after
-          (c.push_reserved.ensures.items ∙ ap (λ (b : Back). backs ++ b ∷ []) c.in-Ok.ensures.back);
+          (c.push_reserved.ensures.items ∙ ap (λ (b : BeforeImage). backs ++ b ∷ []) c.in-Ok.ensures.back);
       room = let room = c.loop-edit.invariant.room in let capacity = c.push_reserved.ensures.capacity in omega arith;
     }
 

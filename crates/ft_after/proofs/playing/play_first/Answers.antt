@@ -1,8 +1,0 @@
-use Rattle.ft_after.proofs.Running.{cleared}
-use Rattle.ft_after.proofs.playing.play_first.Goals as goal
-
-pub returns-in-Ok-clause-ok : goal.returns-in-Ok-clause-ok
-returns-in-Ok-clause-ok c =
-    let played = c.play_all.new.core.state in
-    let begun = cleared played c.checkpoint.new.self.state c.in-Ok.ensures.step in
-    (played, c.in_ok-last.ensures.ok, begun.0, begun.1)

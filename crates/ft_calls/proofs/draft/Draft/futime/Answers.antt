@@ -1,0 +1,17 @@
+use Rattle.std.proofs.lemmas.Result.{err_from_is_err_and}
+use Rattle.ft_posix.specs.Descriptors.{any_open}
+use Rattle.ft_posix.specs.Attributes.{futime_open}
+use Rattle.ft_posix.specs.Intended.{intended}
+use Rattle.ft_calls.proofs.Opened.{opened_on, opened_lost}
+use Rattle.ft_calls.proofs.draft.Draft.futime.Goals as goal
+
+pub returns-in_err-description : goal.returns-in_err-description
+returns-in_err-description c =
+    let p = err_from_is_err_and c.from_residual.result c.from_residual.ensures.1 in
+    rw (p.1, p.2) (opened_lost c.args.self.now.look c.args.fd any_open (futime_open c.args.time) c.open_for.new.look c.in_err-description.field-0.0 c.in_err-description.ensures)
+
+pub returns : goal.returns
+returns c =
+    let on = c.futime_open in
+    opened_on c.args.self.now.look c.args.fd any_open (futime_open c.args.time) c.open_for.new.look c.in_ok-description.description c.in_ok-description.ensures on.new.self.look (intended on.new.self.edits on.result)
+    on.ensures

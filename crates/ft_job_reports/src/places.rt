@@ -1,0 +1,37 @@
+// Jobs by their names.
+ghost use Rattle.std.specs.Prelude.{◌≡◌, option_copied};
+ghost use Rattle.std.specs.List.{position};
+ghost use Rattle.ft_job_reports.specs.Reports.{is_named, report_of, txn_of};
+
+use crate::report::Report;
+use ft_core::TxnId;
+use ft_plan::Job;
+
+/// The place of the job of this name.
+pub fn place_of(jobs: &[Job], name: &[u8]) -> Option<usize>
+    ensures { result ≡ position (is_named name.now) jobs.now }
+{
+    jobs.iter().position(|job| is_named(name, job))
+}
+
+/// Returns whether a job has this name.
+fn is_named(name: &[u8], job: &Job) -> bool
+    ensures { result ≡ is_named name.now job.now }
+{
+    job.name.as_bytes() == name
+}
+
+/// The transaction of the job of this name.
+pub fn txn_of(jobs: &[Job], reports: &[Report], name: &[u8]) -> Option<TxnId>
+    ensures { result ≡ txn_of jobs.now reports.now name.now }
+{
+    report_of(jobs, reports, name)?.txn
+}
+
+/// The report of the job of this name.
+pub fn report_of<'a>(jobs: &[Job], reports: &'a [Report], name: &[u8]) -> Option<&'a Report>
+    ensures { option_copied result ≡ report_of jobs.now reports.now name.now }
+{
+    let at = place_of(jobs, name)?;
+    reports.get(at)
+}

@@ -1,0 +1,5 @@
+-- What callers cite.
+pub mod Runs
+-- What the crate keeps true of itself.
+pub mod ProgressTexts
+pub mod Texts

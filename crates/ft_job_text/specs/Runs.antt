@@ -1,0 +1,50 @@
+-- The text that a run of a plan writes.
+use Rattle.std.specs.Prelude.{◌≡◌, ℕ, Bool, List, Option}
+use Rattle.std.specs.Io.KnownBytes.{Appends, Keeps}
+use Rattle.ft_cells.specs.Rows.{rows_of}
+use Rattle.ft_core.specs.States.{State, tree_of}
+use Rattle.ft_record.specs.Going.{GoesOn}
+use Rattle.ft_plan.specs.declared.fault.JobFault.TheVariants.{Memory, BadPlan, Mismatch, Thread}
+use Rattle.ft_plan.specs.declared.job.Job.{Job}
+use Rattle.ft_plan.specs.Plans.{IsPlanOf}
+use Rattle.ft_words.specs.Texts.{tree_text}
+use Rattle.ft_job_reports.specs.Reports.{AreReports, are_met}
+use Rattle.ft_jobs.specs.declared.running.JobsOutcome.{JobsOutcome}
+use Rattle.ft_script.specs.Runs.{WritesPart}
+use Rattle.ft_job_text.specs.declared.running.RunFault.{RunFault}
+use Rattle.ft_job_text.specs.declared.running.RunFault.TheVariants as faults
+use Rattle.ft_job_text.specs.Texts.{outcome_text}
+
+-- the text of what came of jobs: of their reports, of the events of the core, and of the rows of
+-- the tree of its state
+abbrev pub text_of_outcome : List Job → JobsOutcome → List ℕ
+text_of_outcome jobs outcome = outcome_text jobs outcome.reports.items outcome.core.state.events (tree_text (rows_of (tree_of outcome.core.state)))
+
+-- The bytes are the plan of some jobs, and the text is that of an outcome of them: they have run on
+-- a core that was in this state, and their reports are what happened; and whether they ended as the
+-- plan means, if it is strict.
+pub record IsTextOfPlan (met : Bool) (from : State) (bytes text : List ℕ) : Type 0 where
+  pub jobs : List Job
+  pub outcome : JobsOutcome
+  pub plan : IsPlanOf bytes jobs
+  pub goes_on : GoesOn from outcome.core.state
+  pub reports : AreReports outcome.core.state jobs outcome.reports.items
+  pub told : text ≡ text_of_outcome jobs outcome
+  pub as_meant : met ≡ are_met jobs outcome.reports.items
+
+-- the bytes are the plan of no jobs
+abbrev pub IsNoPlan : List ℕ → Type 0
+IsNoPlan bytes = (jobs : List Job) → IsPlanOf bytes jobs → ⊥
+
+-- A plan was run, and such a text was written, whole and nothing else.
+abbrev pub RunsPlan : Bool → State → List ℕ → Option (List ℕ) → Option (List ℕ) → Type 0
+RunsPlan met from bytes before after = (text : List ℕ) × IsTextOfPlan met from bytes text × Appends before after text
+
+-- A fault leaves this: nothing was written, at BadPlan if the bytes are no plan; a part of such a
+-- text at Write.
+abbrev pub StopsPlan : RunFault → State → List ℕ → Option (List ℕ) → Option (List ℕ) → Type 0
+StopsPlan (faults.Jobs BadPlan) from bytes before after = IsNoPlan bytes × Keeps before after
+StopsPlan (faults.Jobs Memory) from bytes before after = Keeps before after
+StopsPlan (faults.Jobs Mismatch) from bytes before after = Keeps before after
+StopsPlan (faults.Jobs Thread) from bytes before after = Keeps before after
+StopsPlan faults.Write from bytes before after = (met : Bool) × (text : List ℕ) × IsTextOfPlan met from bytes text × WritesPart before after text

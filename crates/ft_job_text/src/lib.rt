@@ -1,0 +1,15 @@
+//! Plans that are run, how far their jobs have come, shown on a line of a screen meanwhile, and the
+//! text of their outcome.
+#![tactic(auto)]
+
+mod progress;
+mod running;
+mod text;
+mod watch;
+mod watched;
+
+pub use progress::Progress;
+pub use running::{RunFault, run_plan};
+pub use text::OutcomeText;
+pub use watch::Watch;
+pub use watched::run_jobs_shown;

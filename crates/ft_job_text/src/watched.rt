@@ -1,0 +1,76 @@
+// The jobs of a plan, shown while they run.
+ghost use Rattle.std.specs.Prelude.{◌≢◌, IfOk, IfErr};
+ghost use Rattle.ft_job_reports.specs.Reports.{AreReports};
+
+use crate::watch::Watch;
+use ft_jobs::{JobFault, JobsOutcome, OpenGate, Pace, Plan, Report, run_jobs, run_jobs_unchecked};
+use ft_shared::Manager;
+use std::alloc::Global;
+use std::io::Write;
+use std::sync::Wait;
+use std::thread::{self, Threads};
+use std::time::Clock;
+
+/// Runs the jobs of a plan as `run_jobs` does, and meanwhile shows on a screen, if there is one,
+/// how far they have come.
+///
+/// If there is not enough memory or no thread to show it, it is not shown.
+pub fn run_jobs_shown<M: Manager, R: Threads + Wait + Clock + Sync, S: Write + Send + Drop>(
+    rt: &R,
+    alloc: Global,
+    plan: &Plan,
+    manager: M,
+    pace: Pace,
+    screen: Option<S>,
+) -> Result<JobsOutcome, JobFault>
+    ensures ok { IfOk result
+        (λ outcome. AreReports outcome.core.state plan.now outcome.reports.items) }
+    ensures core { IfOk result (λ outcome. M.hands_back outcome.core.state) }
+    ensures cause { IfErr result (λ fault. fault ≢ JobFault.BadPlan) }
+{
+    match (screen, Watch::new(alloc, plan.jobs())) {
+        (Some(screen), Ok(watch)) => run_watched(rt, alloc, plan, manager, pace, &watch, screen),
+        _ => run_jobs(rt, alloc, plan, manager, &OpenGate, pace),
+    }
+}
+
+/// Runs them under a watch, which another thread shows.
+fn run_watched<M: Manager, R: Threads + Wait + Clock + Sync, S: Write + Send + Drop>(
+    rt: &R,
+    alloc: Global,
+    plan: &Plan,
+    manager: M,
+    pace: Pace,
+    watch: &Watch<'_>,
+    screen: S,
+) -> Result<JobsOutcome, JobFault>
+    ensures ok { IfOk result
+        (λ outcome. AreReports outcome.core.state plan.now outcome.reports.items) }
+    ensures core { IfOk result (λ outcome. M.hands_back outcome.core.state) }
+    ensures cause { IfErr result (λ fault. fault ≢ JobFault.BadPlan) }
+{
+    let run = report_watched(rt, alloc, plan, &manager, pace, watch, screen);
+    let core = manager.into_core(rt);
+    JobsOutcome::checked(alloc, plan, core, run?)
+}
+
+/// Runs them so, and returns what they report.
+fn report_watched<M: Manager, R: Threads + Wait + Clock + Sync, S: Write + Send + Drop>(
+    rt: &R,
+    alloc: Global,
+    plan: &Plan,
+    manager: &M,
+    pace: Pace,
+    watch: &Watch<'_>,
+    screen: S,
+) -> Result<Vec<Report>, JobFault>
+    ensures { IfErr result (λ fault. fault ≢ JobFault.BadPlan) }
+{
+    thread::scope(thread::scope_env(), rt, move |scope| {
+        let mut screen = screen;
+        let _ = scope.spawn(move || watch.show(rt, alloc, &mut screen));
+        let run = run_jobs_unchecked(rt, alloc, plan, manager, watch, pace);
+        watch.stop(rt);
+        run
+    })
+}

@@ -1,0 +1,5 @@
+-- What callers cite.
+pub mod Requests
+pub mod Texts
+pub mod Reports
+pub mod Lines

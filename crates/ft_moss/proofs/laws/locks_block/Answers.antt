@@ -1,5 +1,0 @@
-use Rattle.ft_moss.proofs.Following.{block_law}
-use Rattle.ft_moss.proofs.laws.locks_block.Goals as goal
-
-pub returns : goal.returns
-returns c = block_law c.lawful.ensures

@@ -1,5 +1,0 @@
-use Rattle.ft_moss.proofs.Following.{grant_law}
-use Rattle.ft_moss.proofs.laws.locks_granted.Goals as goal
-
-pub returns : goal.returns
-returns c = grant_law c.lawful.ensures

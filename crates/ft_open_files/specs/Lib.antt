@@ -1,0 +1,2 @@
+-- What the crate keeps true of itself.
+pub mod Openings

@@ -1,3 +1,0 @@
-pub mod ProgressTexts
-pub mod Runs
-pub mod Texts

@@ -1,4 +1,0 @@
-pub mod Requests
-pub mod Texts
-pub mod Reports
-pub mod Lines

@@ -1,7 +1,0 @@
-use Rattle.std.proofs.Common.{◌≡◌, drop}
-use Rattle.ft_reports.specs.Reports.{stamps_rise}
-use Rattle.ft_reports.proofs.history.do_stamps_rise.Given as goal
-
--- what is left decides
-abbrev pub invariant-loop-call : goal.invariant-loop-call
-invariant-loop-call l = stamps_rise l.before (drop l.call-index l.calls) ≡ stamps_rise 0 l.calls

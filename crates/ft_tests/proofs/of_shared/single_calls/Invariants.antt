@@ -1,6 +1,0 @@
-use Rattle.ft_shared.specs.Origins.{without_views}
-use Rattle.ft_tests.proofs.of_shared.single_calls.Given as goal
-
--- the core as it was given
-abbrev pub ghosts-is_refused : goal.ghosts-is_refused
-ghosts-is_refused g a = record { origin = without_views a.core.state }

@@ -1,0 +1,69 @@
+//! The program `tool_bench`: `tool_bench WHAT COUNT SIZE` makes a tree of SIZE directories with
+//! three components, by itself or through a core, or a table of SIZE locks, and then does COUNT
+//! times WHAT to it. It is run under a tool that counts instructions: what one call takes is the
+//! difference between two runs that differ in COUNT.
+#![tactic(auto)]
+
+mod failed;
+mod growth;
+mod locking;
+mod measure;
+mod paths;
+mod stages;
+
+use failed::Failed;
+use locking::Asking;
+use measure::Measure;
+use stages::Stage;
+use std::alloc::Global;
+use std::env;
+use std::process::ExitCode;
+
+/// Runs a measure, and returns 0. Prints the reason and returns 1 if that fails.
+fn main(rt: HostRuntime) -> ExitCode {
+    match measured(&rt) {
+        Ok(()) => ExitCode::from(0),
+        Err(failed) => {
+            let _ = rt.eprint(failed.text());
+            ExitCode::from(1)
+        }
+    }
+}
+
+/// Does what the words after the program's name ask for, and prints how often it went well.
+fn measured(rt: &HostRuntime) -> Result<(), Failed> {
+    let words = words_given(rt)?;
+    let [what, count, size] = words.as_slice() else {
+        return Err(Failed::Usage);
+    };
+    let (count, size) = (number(count.as_str())?, number(size.as_str())?);
+    let done = run(rt.alloc(), what.as_str(), count, size)?;
+    let _ = println!(rt; "{what} {count} {size}: {done}");
+    Ok(())
+}
+
+/// The words after the program's name.
+fn words_given(rt: &HostRuntime) -> Result<Vec<String>, Failed> {
+    match env::args(rt) {
+        Ok(words) => Ok(words.skip(1).collect(rt.alloc())?),
+        Err(_) => Err(Failed::Memory),
+    }
+}
+
+/// Returns the number that a word spells. Fails with the usage if it spells none.
+fn number(word: &str) -> Result<u64, Failed> {
+    word.parse::<u64>().ok().ok_or(Failed::Usage)
+}
+
+/// Does what is measured `count` times, and returns how often it went well. Fails with the usage if
+/// nothing has this name.
+fn run(alloc: Global, what: &str, count: u64, size: u64) -> Result<u64, Failed> {
+    if let Some(asking) = Asking::named(what) {
+        return locking::run(alloc, asking, count, size);
+    }
+    if let Some(stage) = Stage::named(what) {
+        return stages::run(alloc, stage, count, size);
+    }
+    let measure = Measure::named(what).ok_or(Failed::Usage)?;
+    measure::run(alloc, measure, count, size)
+}
