@@ -161,7 +161,8 @@ class SaveToMountTest(RunTest):
     def assert_ends_if_killed(self, *words: object) -> None:
         """A copy has begun that waits, and ends with its program."""
         saving = mounts.start(*words)
-        self.assertTrue(mounts.wait_until(lambda: "waits" in self.saved_to.steps()))
+        # (it copies the whole tree up to there, which takes its time on a busy machine)
+        self.assertTrue(mounts.wait_until(lambda: "waits" in self.saved_to.steps(), 60))
         saving.kill()
         self.assertTrue(mounts.ended_within(saving))
         self.assertTrue(mounts.wait_until(lambda: "waits" not in self.saved_to.steps()))
