@@ -1,5 +1,6 @@
 """Saves that are refused memory: what was begun is removed, even if there is none left."""
 import os
+import re
 import sys
 import tempfile
 
@@ -67,6 +68,7 @@ def fault_of_run(ran, work):
     left = os.listdir(work)
     if ran.status == 0:
         return None if left == ["out"] else f"status 0, and there is {left}"
-    if ran.status != 1 or not ran.errors.startswith(b"fault: "):
+    # (a sentence that explains the fault may come before it)
+    if ran.status != 1 or not re.search(rb"^fault: ", ran.errors, re.M):
         return f"status {ran.status}, {ran.errors!r}"
     return f"{left} is left" if left else None
