@@ -125,7 +125,7 @@ def remove(path):
 def fifo(kit, program, work, preload):
     """A FIFO that comes in the place of a file is waited for, and then refused; never in the place
     of a directory."""
-    said = b"ft_run: cannot load '/d/f': it is a FIFO (--skip leaves it out)\n"
+    said = b"ft: cannot load '/d/f': it is a FIFO (--skip leaves it out)\n"
     for place, line in (("d/f", said + b"fault: Special /d/f\n"), ("d", None)):
         def coming(top, outside, path):
             os.mkfifo(path)

@@ -60,7 +60,7 @@ def named_lines(bench):
     for text, line, why in MISTAKES:
         ran, name = run_text(bench, text)
         place = name if line is None else f"{name}:{line}"
-        if (ran.status, ran.errors) != (1, f"ft_run: {place}: {why}\nfault: BadPlan\n".encode()):
+        if (ran.status, ran.errors) != (1, f"ft: {place}: {why}\nfault: BadPlan\n".encode()):
             return f"{text!r}: {ran}"
     return None
 
@@ -71,7 +71,7 @@ def any_lines(bench):
         chance = random.Random(seed)
         text = changed(chance, text_of(some_jobs(chance)))
         ran, name = run_text(bench, text)
-        told = re.escape(f"ft_run: {name}") + r"(:(\d+))?: [^\n]+\nfault: BadPlan\n"
+        told = re.escape(f"ft: {name}") + r"(:(\d+))?: [^\n]+\nfault: BadPlan\n"
         found = re.fullmatch(told, ran.errors.decode())
         is_in = found and (not found[2] or 1 <= int(found[2]) <= text.count("\n"))
         is_plan = ran.status in (0, 3) and not ran.errors

@@ -35,8 +35,11 @@ def fault_of(ran, wanted):
 
 
 def fault_of_end(ran, wanted, name):
-    """Why a run that must end with this text and this fault has not, or nothing."""
-    if (ran.status, ran.errors) != (1, f"fault: {name}\n".encode()):
+    """Why a run that must end with this text and this fault has not, or nothing. Sentences that
+    explain the fault may come before it."""
+    *sentences, fault = ran.errors.split(b"\n")[:-1] or [b""]
+    told = all(line.startswith(b"ft: ") for line in sentences)
+    if (ran.status, fault, told) != (1, f"fault: {name}".encode(), True):
         return f"expected fault {name}, got status {ran.status}, {ran.errors!r}"
     if ran.text != wanted:
         return f"expected {shown(wanted)}, got {shown(ran.text)}"

@@ -1,4 +1,4 @@
-/* What the peers have in common: they play a script as `ft_run play` does, and write replies as it
+/* What the peers have in common: they play a script as `ft play` does, and write replies as it
    does. What transactions and calls do is a peer's own: the functions at the end. */
 #ifndef PLAY_H
 #define PLAY_H

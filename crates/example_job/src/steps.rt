@@ -1,6 +1,6 @@
 // The calls of a step.
 use anyhow::{Result, bail};
-use ft_core::{AccessMode, Call, Core, FilePath, Outcome, Reply, TxnId};
+use ft_core::{AccessMode, Call, Core, FilePath, OpenFlags, Outcome, Reply, TxnId};
 use std::alloc::Global;
 
 /// Makes a file with these bytes. It must not be there yet.
@@ -13,12 +13,14 @@ pub fn make_file(
 ) -> Result<()> {
     let call = Call::Open {
         path: FilePath::new(alloc, path)?,
-        access: AccessMode::WriteOnly,
-        create: true,
-        excl: true,
-        trunc: false,
-        append: false,
-        mode: None,
+        flags: OpenFlags {
+            access: AccessMode::WriteOnly,
+            create: true,
+            excl: true,
+            trunc: false,
+            append: false,
+            mode: None,
+        },
     };
     let Reply::Number(fd) = granted(core, txn, call)? else {
         bail!("the file could not be made");

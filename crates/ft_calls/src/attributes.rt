@@ -56,6 +56,7 @@ impl Change {
 
 impl<'t, 'c> Draft<'t, 'c> {
     /// Plans to set the mode of a directory or a file.
+    #[inline(never)]
     pub(crate) fn chmod(&mut self, mode: u16, path: &FilePath) -> Result<PlannedReply, CallError>
         requires { self.old.edits ≡ [] }
         ensures { Plans self.old
@@ -69,6 +70,7 @@ impl<'t, 'c> Draft<'t, 'c> {
     }
 
     /// Plans to set the mode of a descriptor's file.
+    #[inline(never)]
     pub(crate) fn fchmod(&mut self, fd: u64, mode: u16) -> Result<PlannedReply, CallError>
         requires { self.old.edits ≡ [] }
         ensures { Plans self.old (with_open fd any_open (fchmod_open mode)) self.new result }
@@ -89,6 +91,7 @@ impl<'t, 'c> Draft<'t, 'c> {
     }
 
     /// Plans to set the owner and the group of a directory or a file. One that is not given stays.
+    #[inline(never)]
     pub(crate) fn chown(
         &mut self,
         owner: Option<u32>,
@@ -106,6 +109,7 @@ impl<'t, 'c> Draft<'t, 'c> {
 
     /// Plans to set the owner and the group of a directory or a file. Those of a last symbolic link
     /// stay 0.
+    #[inline(never)]
     pub(crate) fn lchown(
         &mut self,
         owner: Option<u32>,
@@ -122,6 +126,7 @@ impl<'t, 'c> Draft<'t, 'c> {
     }
 
     /// Plans to set the owner and the group of a descriptor's file. One that is not given stays.
+    #[inline(never)]
     pub(crate) fn fchown(
         &mut self,
         fd: u64,
@@ -195,6 +200,7 @@ impl<'t, 'c> Draft<'t, 'c> {
     }
 
     /// Plans to set the time of a file's bytes.
+    #[inline(never)]
     pub(crate) fn utime(
         &mut self,
         time: Timestamp,
@@ -210,6 +216,7 @@ impl<'t, 'c> Draft<'t, 'c> {
     }
 
     /// Plans to set the time of a file's bytes. Fails at a last symbolic link.
+    #[inline(never)]
     pub(crate) fn lutime(
         &mut self,
         time: Timestamp,
@@ -225,6 +232,7 @@ impl<'t, 'c> Draft<'t, 'c> {
     }
 
     /// Plans to set the time of the bytes of a descriptor's file.
+    #[inline(never)]
     pub(crate) fn futime(&mut self, fd: u64, time: Timestamp) -> Result<PlannedReply, CallError>
         requires { self.old.edits ≡ [] }
         ensures { Plans self.old (with_open fd any_open (futime_open time)) self.new result }

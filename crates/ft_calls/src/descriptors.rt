@@ -22,6 +22,7 @@ use ft_tree::{Form, OpenFile, TreeLimits};
 impl<'t, 'c> Draft<'t, 'c> {
     /// Plans to write at the offset, or with append at the end of the file. The offset becomes the
     /// end of the written bytes.
+    #[inline(never)]
     pub(crate) fn write(&mut self, fd: u64, bytes: &'c [u8]) -> Result<PlannedReply, CallError>
         requires { self.old.edits ≡ [] }
         ensures { Plans self.old
@@ -81,6 +82,7 @@ impl<'t, 'c> Draft<'t, 'c> {
     }
 
     /// Plans to close a descriptor.
+    #[inline(never)]
     pub(crate) fn close(&mut self, fd: u64) -> Result<PlannedReply, CallError>
         requires { self.old.edits ≡ [] }
         ensures { Plans self.old (with_open fd any_open (close_open fd)) self.new result }
@@ -100,6 +102,7 @@ impl<'t, 'c> Draft<'t, 'c> {
     }
 
     /// Plans to read at the offset, which moves by the count of the bytes.
+    #[inline(never)]
     pub(crate) fn read(&mut self, fd: u64, len: u64) -> Result<PlannedReply, CallError>
         requires { self.old.edits ≡ [] }
         ensures { Plans self.old (with_open fd is_readable (read_open fd len)) self.new result }
@@ -133,6 +136,7 @@ impl<'t, 'c> Draft<'t, 'c> {
     }
 
     /// Plans to write at an offset. The offset of the description stays.
+    #[inline(never)]
     pub(crate) fn pwrite(
         &mut self,
         fd: u64,
@@ -192,6 +196,7 @@ impl<'t, 'c> Draft<'t, 'c> {
     }
 
     /// Plans to set the offset of a descriptor.
+    #[inline(never)]
     pub(crate) fn lseek(
         &mut self,
         fd: u64,
@@ -242,6 +247,7 @@ impl<'t, 'c> Draft<'t, 'c> {
     }
 
     /// Plans to cut a descriptor's file to a length, or to add zeros up to it.
+    #[inline(never)]
     pub(crate) fn ftruncate(&mut self, fd: u64, length: i64) -> Result<PlannedReply, CallError>
         requires { self.old.edits ≡ [] }
         ensures { Plans self.old
@@ -304,6 +310,7 @@ fn at_offset(description: OpenFile, offset: u64) -> OpenFile
 }
 
 /// Plans to read at an offset. The offset of the description stays.
+#[inline(never)]
 pub(crate) fn pread(
     look: &mut Look<'_>,
     fd: u64,
@@ -360,6 +367,7 @@ fn seek_from(look: &mut Look<'_>, whence: Whence, description: OpenFile) -> Resu
 }
 
 /// Returns the planned reply about what a descriptor has open.
+#[inline(never)]
 pub(crate) fn fstat(look: &mut Look<'_>, fd: u64) -> Result<PlannedReply, CallError>
     ensures { Computes look.old (with_open fd any_open fstat_open) look.new (intended [] result) }
 {

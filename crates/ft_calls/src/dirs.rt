@@ -24,6 +24,7 @@ use std::alloc::Global;
 
 impl<'t, 'c> Draft<'t, 'c> {
     /// Plans to make a directory with the given mode, which gets the stamp as its number.
+    #[inline(never)]
     pub(crate) fn mkdir(
         &mut self,
         mode: Option<u16>,
@@ -64,6 +65,7 @@ impl<'t, 'c> Draft<'t, 'c> {
     }
 
     /// Plans to remove an empty directory.
+    #[inline(never)]
     pub(crate) fn rmdir(&mut self, path: &FilePath) -> Result<PlannedReply, CallError>
         requires { self.old.edits ≡ [] }
         ensures { Plans self.old (remove_parts (parts_of path.now)) self.new result }
@@ -142,6 +144,7 @@ pub(crate) fn dir_gone(edits: &mut Edits<'_>, dir: u64) -> Result<(), Memory>
 }
 
 /// Plans to list the names of a directory.
+#[inline(never)]
 pub(crate) fn list(
     alloc: Global,
     look: &mut Look<'_>,

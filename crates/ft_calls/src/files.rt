@@ -25,6 +25,7 @@ use std::alloc::Global;
 impl<'t, 'c> Draft<'t, 'c> {
     /// Plans to open a file, and to make it if that is requested. A new file and the descriptor get
     /// the stamp as their number.
+    #[inline(never)]
     pub(crate) fn open(
         &mut self,
         path: &FilePath,
@@ -117,6 +118,7 @@ impl<'t, 'c> Draft<'t, 'c> {
     }
 
     /// Plans to cut a file to a length, or to add zeros up to it.
+    #[inline(never)]
     pub(crate) fn truncate(
         &mut self,
         length: i64,
@@ -189,6 +191,7 @@ fn open_fault(flags: OpenFlags) -> Option<Errno>
 
 /// Returns the planned reply about what a path leads to, through a last symbolic link if that is to
 /// be followed.
+#[inline(never)]
 pub(crate) fn stat(
     alloc: Global,
     look: &mut Look<'_>,

@@ -21,4 +21,4 @@ pub use ft_posix::{
     Access, Call, Edit, Edits, Intent, LAST_OFFSET, Mode, OpenFlags, PlannedReply, Reply,
     StampedCall, Whence,
 };
-pub use preparing::{Looked, Prepared, accesses, look_behind, look_over, prepare};
+pub use preparing::{Looked, Prepared, accesses, intend, look_behind, look_over, prepare};

@@ -20,6 +20,7 @@ use ft_tree::{Entry, Form, Node, PathEnd, TreeLimits};
 
 impl<'t, 'c> Draft<'t, 'c> {
     /// Plans to remove an entry of a file.
+    #[inline(never)]
     pub(crate) fn unlink(&mut self, path: &FilePath) -> Result<PlannedReply, CallError>
         requires { self.old.edits ≡ [] }
         ensures { Plans self.old (from_parts false (parts_of path.now) unlink_spot)
@@ -54,6 +55,7 @@ impl<'t, 'c> Draft<'t, 'c> {
     }
 
     /// Plans to make another entry for a file.
+    #[inline(never)]
     pub(crate) fn link(&mut self, old: &FilePath, new: &FilePath) -> Result<PlannedReply, CallError>
         requires { self.old.edits ≡ [] }
         ensures { Plans self.old
@@ -154,6 +156,7 @@ impl<'t, 'c> Draft<'t, 'c> {
     }
 
     /// Plans to give a file or a directory another name.
+    #[inline(never)]
     pub(crate) fn rename(
         &mut self,
         old: &FilePath,

@@ -20,7 +20,7 @@ use crate::files::stat;
 use crate::symlinks::readlink;
 use ft_base::Memory;
 use ft_looks::Look;
-use ft_posix::{Access, Call, CallError, Edits, Intent, OpenFlags, PlannedReply};
+use ft_posix::{Access, Call, CallError, Edits, Intent, PlannedReply};
 use ft_tree::{Front, Tree};
 use std::alloc::Global;
 use std::mem;
@@ -54,6 +54,28 @@ pub fn prepare<'c>(
     let Looked { accesses, told } = look_over(alloc, tree, stamp, call, &mut edits)?;
     let intent = Intent { told, edits };
     Ok(Prepared { accesses, intent })
+}
+
+/// Looks at everything that a call looks at, and returns its intent. Makes no list of its accesses,
+/// and changes nothing. Out of memory is the only refusal.
+pub fn intend<'c>(
+    alloc: Global,
+    tree: &Tree,
+    stamp: u64,
+    call: &'c Call,
+) -> Result<Intent<'c>, Memory>
+    requires { bytes_of tree.now stamp ≡ [] }
+    ensures { IfOk result (λ intent. outcome_of tree.now intent ≡ outcome tree.now stamp call.now) }
+{
+    let mut draft = Draft {
+        alloc,
+        stamp,
+        look: Look::new(alloc, tree),
+        edits: Edits::new(alloc),
+    };
+    let told = draft.plan_or_fail(call)?;
+    let Draft { edits, .. } = draft;
+    Ok(Intent { told, edits })
 }
 
 /// The accesses and the planned reply of a call that was looked at.
@@ -159,25 +181,7 @@ impl<'t, 'c> Draft<'t, 'c> {
             Call::Mkdir { path, mode } => self.mkdir(*mode, path),
             Call::Rmdir { path } => self.rmdir(path),
             Call::List { path } => list(self.alloc, &mut self.look, path),
-            Call::Open {
-                path,
-                access,
-                create,
-                excl,
-                trunc,
-                append,
-                mode,
-            } => {
-                let flags = OpenFlags {
-                    access: *access,
-                    create: *create,
-                    excl: *excl,
-                    trunc: *trunc,
-                    append: *append,
-                    mode: *mode,
-                };
-                self.open(path, flags)
-            }
+            Call::Open { path, flags } => self.open(path, *flags),
             Call::Close { fd } => self.close(*fd),
             Call::Read { fd, len } => self.read(*fd, *len),
             Call::Write { fd, bytes } => self.write(*fd, bytes.as_slice()),

@@ -18,6 +18,7 @@ use std::alloc::Global;
 
 impl<'t, 'c> Draft<'t, 'c> {
     /// Plans to make a symbolic link, which gets the stamp as its number.
+    #[inline(never)]
     pub(crate) fn symlink(
         &mut self,
         target: &'c FilePath,
@@ -99,6 +100,7 @@ fn target_fault(target: &[u8]) -> Option<Errno>
 }
 
 /// Returns the planned reply with the target of a symbolic link.
+#[inline(never)]
 pub(crate) fn readlink(
     alloc: Global,
     look: &mut Look<'_>,

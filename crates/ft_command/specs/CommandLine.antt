@@ -90,10 +90,10 @@ jobs = limited (with_rule (with_rule (with_rule (with_rule (with_rule (with_rule
 abbrev pub HasNoGlobals : Command → Type 0
 HasNoGlobals command = (out-Command command).has_globals ≡ false
 
--- the program `ft_run` needs a subcommand, and has a version; the words begin after its name
+-- the program `ft` needs a subcommand, and has a version; the words begin after its name
 abbrev pub bare : App
 bare =
-    let named = new_app (codes "ft_run") in
+    let named = new_app (codes "ft") in
     record named { top = record named.top { no_binary_name = true; subcommand_required = true; has_version = true } }
 
 -- it has `play` and `dot`

@@ -78,9 +78,9 @@ pub struct AskedPace {
 
 /// Examples: a script is run, its waits-for edges are drawn, the jobs of a plan are run, and jobs
 /// begin with the files of one directory and end with those of another.
-const EXAMPLE: &str = "Example:\n  ft_run play < script.ft\n  \
-        ft_run play < script.ft | ft_run dot | dot -Tsvg > waits.svg\n  ft_run jobs build.plan\n  \
-        ft_run load src > src.ft\n  ft_run jobs build.plan --after src.ft | ft_run save out";
+const EXAMPLE: &str = "Example:\n  ft play < script.ft\n  \
+        ft play < script.ft | ft dot | dot -Tsvg > waits.svg\n  ft jobs build.plan\n  \
+        ft load src > src.ft\n  ft jobs build.plan --after src.ft | ft save out";
 
 /// The version of the program, which is that of the library.
 const VERSION: &str = "0.1.0";
@@ -340,7 +340,7 @@ fn with_filters<'a>(alloc: Global) -> Result<Command<'a>, AllocError>
 fn bare<'a>(alloc: Global) -> Command<'a>
     ensures { app_of result ≡ bare }
 {
-    Command::new(alloc, "ft_run")
+    Command::new(alloc, "ft")
         .about("Runs transaction scripts on an in-memory file tree")
         .version(VERSION)
         .no_binary_name(true)

@@ -1,4 +1,4 @@
-//! The command line of the program `ft_run`: the task that its arguments request.
+//! The command line of the program `ft`: the task that its arguments request.
 #![tactic(auto)]
 
 mod choice;

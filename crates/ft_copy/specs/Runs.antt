@@ -121,12 +121,20 @@ module _ {T : Type 0} (tells : Told → Type 0) (does : T → Asked → T → Ty
   abbrev pub CopiesLink : List ℕ → ℕ → FileId → T → T → Type 0
   CopiesLink path node id old new = (to : List ℕ) × tells (Leads path node id to) × does old (Symlink to path) new
 
+  -- so it did of a link that was met
+  abbrev pub CopiesMet : MetLink → T → T → Type 0
+  CopiesMet link old new = CopiesLink link.place.path link.place.node link.facts.id old new
+
 module _ {T : Type 0} (limits : CopyLimits) (tells : Told → Type 0) (does : T → Asked → T → Type 0) where
   -- the target made a file of what can be read from the source's file, and gave it this
   abbrev pub CopiesFile : CopyPath → FileId → Given → T → T → Type 0
   CopiesFile place id given old new =
       (pieces : List (List ℕ)) × IsRead tells place.path place.node id pieces × (length (concat pieces) ≤ limits.file_size)
       × DoesAll does old (made place.path given pieces) new
+
+  -- so it did of this file, and gave it what may be copied of what was found
+  abbrev pub CopiesFound : CopyPath → FoundFile → T → T → Type 0
+  CopiesFound place file old new = CopiesFile place file.facts.id (kept_given limits file.given) old new
 
   -- a file was visited, and the target did what was requested
   abbrev pub VisitsFile : CopyPath → FoundFile → Standing → Standing → T → T → Type 0

@@ -229,6 +229,10 @@ module _ {T : Type 0} (tells : Told → Type 0) (fails : T → Asked → CopyFau
   FailsToCopyLink trouble path node id old new =
       ((new ≡ old) × IsUnread tells trouble path node id) ⊎ ((to : List ℕ) × tells (Leads path node id to) × fails old (Symlink to path) trouble new)
 
+  -- so it is of a link that was met
+  abbrev pub FailsToCopyMet : CopyFault → MetLink → T → T → Type 0
+  FailsToCopyMet trouble link old new = FailsToCopyLink trouble link.place.path link.place.node link.facts.id old new
+
 module _ {T : Type 0} (tells : Told → Type 0) (does : T → Asked → T → Type 0) (fails : T → Asked → CopyFault → T → Type 0) where
   -- The target did not start, or the root could not be entered.
   abbrev pub StopsBegin : CopyFault → T → T → Type 0

@@ -4,8 +4,7 @@ ghost use Rattle.std.specs.Io.{ReadsAtMost};
 ghost use Rattle.std.specs.Io.KnownBytes.{Consumes, IsAtEnd};
 ghost use Rattle.ft_copy.specs.Asked.{Piece};
 ghost use Rattle.ft_copy.specs.declared.found.Found.TheVariants.{File};
-ghost use Rattle.ft_copy.specs.Kept.{kept_given};
-ghost use Rattle.ft_copy.specs.Runs.{CopiesFile, Pours};
+ghost use Rattle.ft_copy.specs.Runs.{CopiesFound, Pours};
 ghost use Rattle.ft_copy.specs.Stops.{StopsPouring, StopsVisit};
 ghost use Rattle.ft_copy.specs.Told.{Finds};
 ghost use Rattle.ft_copy.specs.Walks.{Standing};
@@ -31,8 +30,8 @@ pub(crate) fn copy_file<S: Source, T: Target>(
     file: &FoundFile,
 ) -> Result<(), CopyFault>
     ensures ok { OnOk result
-        (CopiesFile limits (S.tells source.now) T.does place.now file.now.facts.id
-        (kept_given limits file.now.given) target.old target.new) }
+        (CopiesFound limits (S.tells source.now) T.does place.now file.now target.old
+        target.new) }
     ensures err { (walk : Standing)
         → S.tells source.now (Finds place.now.path place.now.node (File file.now))
         → IfErr result (λ trouble. StopsVisit limits (S.tells source.now) T.does T.fails trouble

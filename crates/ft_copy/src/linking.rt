@@ -1,7 +1,7 @@
 // The symbolic links of a tree, which are made after all else.
 ghost use Rattle.std.specs.Prelude.{OnOk, IfErr};
-ghost use Rattle.ft_copy.specs.Runs.{CopiesLink, MakesLink, MakesLinks};
-ghost use Rattle.ft_copy.specs.Stops.{FailsToCopyLink, StopsLink, StopsLinks};
+ghost use Rattle.ft_copy.specs.Runs.{CopiesMet, MakesLink, MakesLinks};
+ghost use Rattle.ft_copy.specs.Stops.{FailsToCopyMet, StopsLink, StopsLinks};
 ghost use Rattle.ft_copy.specs.Walks.{standing};
 
 use crate::copy_fault::{CopyFault, CopyStop};
@@ -77,11 +77,10 @@ fn copy_link<S: Source, T: Target>(
     link: &MetLink,
 ) -> Result<(), CopyFault>
     ensures ok { OnOk result
-        (CopiesLink (S.tells source.now) T.does link.now.place.path link.now.place.node
-        link.now.facts.id target.old target.new) }
+        (CopiesMet (S.tells source.now) T.does link.now target.old target.new) }
     ensures err { IfErr result
-        (λ trouble. FailsToCopyLink (S.tells source.now) T.fails trouble link.now.place.path
-        link.now.place.node link.now.facts.id target.old target.new) }
+        (λ trouble. FailsToCopyMet (S.tells source.now) T.fails trouble link.now target.old
+        target.new) }
 {
     let path = link.place.path.as_slice();
     let leading = source.read_link(path, link.place.node)?;

@@ -20,6 +20,7 @@ use Rattle.ft_core.specs.Journals.{asked_for}
 use Rattle.ft_core.specs.States.{State, history, accesses_now}
 use Rattle.ft_core.specs.Steps.{BlockingRule, IsStep, IsAsked, IsAnswered, exact_rule, answer_with, outcome_answer, refusal_of}
 use Rattle.ft_core.proofs.Ended.{step-allowed}
+use Rattle.ft_core.specs.Requested.{IsRequested}
 
 -- ---- the rule
 
@@ -53,10 +54,6 @@ asked-same r q s s' t call (Waits blockers) same h = (h.0, h.1 ∙ sym same, h.2
 asked-same r q s s' t call other same h = absurd h
 
 module _ (rule : BlockingRule) (s s' : State) (t : ℕ) where
-  -- what is known of a call that was asked for as whatever stands there to be asked for
-  abbrev pub WasAsked : Option Call → Outcome → Type 0
-  WasAsked asked outcome = (call : Call) × (asked_for asked (finite.get s.asks t) ≡ Some call) × IsAsked rule s t call (outcome_answer outcome) s'
-
   one : (a b : Call) → Some a ≡ Some b → a ≡ b
   one a b e = cc
 
@@ -64,11 +61,11 @@ module _ (rule : BlockingRule) (s s' : State) (t : ℕ) where
   about-ask call (GrantedOutcome k reply) h = h
   about-ask call (WaitsOutcome blockers) h = h
 
-  answered-ask : (call : Call) (result : Result Outcome Fault) → IfOk result (WasAsked (Some call)) → IfErr result (λ fault. fault ≡ Memory) → OnErr result (s' ≡ s) → IsAnswered rule s (Ask t call) (answer_with outcome_answer result) s'
+  answered-ask : (call : Call) (result : Result Outcome Fault) → IfOk result (IsRequested rule s s' t (Some call)) → IfErr result (λ fault. fault ≡ Memory) → OnErr result (s' ≡ s) → IsAnswered rule s (Ask t call) (answer_with outcome_answer result) s'
   answered-ask call (Ok outcome) h memory same = about-ask call outcome (subst (λ x. IsAsked rule s t x (outcome_answer outcome) s') (sym (one call h.0 h.1)) h.2)
   answered-ask call (Err fault) h memory same = (memory, tt, same)
 
-  pub step-ask : (call : Call) (result : Result Outcome Fault) → refusal_of s (Ask t call) ≡ None → IfOk result (WasAsked (Some call)) → IfErr result (λ fault. fault ≡ Memory) → OnErr result (s' ≡ s)
+  pub step-ask : (call : Call) (result : Result Outcome Fault) → refusal_of s (Ask t call) ≡ None → IfOk result (IsRequested rule s s' t (Some call)) → IfErr result (λ fault. fault ≡ Memory) → OnErr result (s' ≡ s)
       → IsStep rule s (Ask t call) (answer_with outcome_answer result) s'
   step-ask call result fine asked memory same = step-allowed rule s s' (Ask t call) (answer_with outcome_answer result) fine (answered-ask call result asked memory same)
 
@@ -79,11 +76,11 @@ step-refused-by rule s r told (Err y) f is due = subst (λ o. MatchOption o (IsA
 
 -- what was asked for by the rule of the state was so by the fair rule, where that tells the same
 pub fairly-asked : (ahead : List ℕ) (s s' : State) (t : ℕ) (asked : Option Call) (outcome : Outcome) → ((call : Call) → asked_for asked (finite.get s.asks t) ≡ Some call → fair_rule ahead s t (accesses_now s call) ≡ exact_rule s t (accesses_now s call))
-    → WasAsked exact_rule s s' t asked outcome → WasAsked (fair_rule ahead) s s' t asked outcome
+    → IsRequested exact_rule s s' t asked outcome → IsRequested (fair_rule ahead) s s' t asked outcome
 fairly-asked ahead s s' t asked outcome same h = (h.0, h.1, asked-same exact_rule (fair_rule ahead) s s' t h.0 (outcome_answer outcome) (same h.0 h.1) h.2)
 
 pub fairly-if : (ahead : List ℕ) (s s' : State) (t : ℕ) (asked : Option Call) (result : Result Outcome Fault) → ((call : Call) → asked_for asked (finite.get s.asks t) ≡ Some call → fair_rule ahead s t (accesses_now s call) ≡ exact_rule s t (accesses_now s call))
-    → IfOk result (WasAsked exact_rule s s' t asked) → IfOk result (WasAsked (fair_rule ahead) s s' t asked)
+    → IfOk result (IsRequested exact_rule s s' t asked) → IfOk result (IsRequested (fair_rule ahead) s s' t asked)
 fairly-if ahead s s' t asked (Ok outcome) same h = fairly-asked ahead s s' t asked outcome same h
 fairly-if ahead s s' t asked (Err fault) same h = tt
 

@@ -1,5 +1,5 @@
 -- `==` decides whether two calls, or two replies, are the same.
-use Rattle.std.proofs.Common.{rules}
+use Rattle.std.proofs.Common.{rules, ℕ, Bool, Option, ap}
 use Rattle.std.proofs.lemmas.Bool.Decides.{Decides-eqb as number, Decides-int_eq as offset}
 use Rattle.std.proofs.lemmas.Slice.Eq.{bytes_eq-Decides as text}
 use Rattle.std.specs.Cmp.{booleans_Decides as flag}
@@ -8,6 +8,8 @@ use Rattle.ft_path.specs.contracts.errno.Errno.{the_type as errno}
 use Rattle.ft_cells.specs.contracts.node.Kind.{the_type as kind}
 use Rattle.ft_cells.specs.contracts.open_file.AccessMode.{the_type as access_mode}
 use Rattle.ft_posix.specs.contracts.call.Whence.{the_type as whence}
+use Rattle.ft_posix.specs.declared.call.OpenFlags.{OpenFlags}
+use Rattle.ft_posix.specs.contracts.call.OpenFlagsPartialEq.TheImpl.{ghosts as for_flags}
 use Rattle.ft_posix.specs.contracts.call.Call.{enum as calls}
 use Rattle.ft_posix.specs.contracts.call.CallPartialEq.TheImpl.{ghosts as for_calls}
 use Rattle.ft_posix.specs.contracts.call.Reply.{enum as replies}
@@ -22,6 +24,17 @@ attributes x y = search rules
 time : Decided for_times.eq
 time x y = search rules
 
+abbrev flags_fields : OpenFlags → access_mode.D × (Bool × (Bool × (Bool × (Bool × (Option ℕ × Unit {0})))))
+flags_fields f = (f.access, (f.create, (f.excl, (f.trunc, (f.append, (f.mode, tt))))))
+
+abbrev flags_from : access_mode.D × (Bool × (Bool × (Bool × (Bool × (Option ℕ × Unit {0}))))) → OpenFlags
+flags_from f = record { access = f.0; create = f.1.0; excl = f.1.1.0; trunc = f.1.1.1.0; append = f.1.1.1.1.0; mode = f.1.1.1.1.1.0 }
+
+flags : Decided for_flags.eq
+flags x y =
+    let each = field_and (bare access_mode tt) (field_and flag (field_and flag (field_and flag (field_and flag (field (optional number)))))) (flags_fields x) (flags_fields y) in
+    (λ is. ap flags_from (each.0 is), λ is. each.1 (ap flags_fields is))
+
 pub same_calls : Decided for_calls.eq
 same_calls =
     variants calls _ (
@@ -31,7 +44,7 @@ same_calls =
         (
           field text,
           (
-            field_and text (field_and (bare access_mode tt) (field_and flag (field_and flag (field_and flag (field_and flag (field (optional number))))))),
+            field_and text (field flags),
             (
               field number,
               (

@@ -1,6 +1,6 @@
 -- Fair waiting: a call that nothing blocks waits behind older asks that conflict with it.
 -- The caller says which transaction has asked before which. (Rules of this project.)
-use Rattle.std.specs.Prelude.{ℕ, Bool, cond, not, ◌==◌, ◌&&◌, ◌||◌, nat_lt, List, [], ◌∷◌, Option, Some, None, map, position, take}
+use Rattle.std.specs.Prelude.{◌≡◌, ℕ, Bool, cond, not, ◌==◌, ◌&&◌, ◌||◌, nat_lt, List, [], ◌∷◌, Option, Some, None, MatchOption, map, position, take}
 use Rattle.std.specs.FinMap as finite
 use Rattle.std.specs.List.{list_any}
 use Rattle.ft_cells.specs.CellOrder.{cell_number}
@@ -66,3 +66,7 @@ waits_behind_from s queue asks = map (λ ask. (ask.0, fair_rule (in_front queue 
 -- each transaction that waits for a call, in rising order, with its blockers now
 abbrev pub waits_behind : State → List ℕ → List (ℕ × List ℕ)
 waits_behind s queue = waits_behind_from s queue (finite.entries s.asks)
+
+-- the blockers of the call that t waits for, if it waits behind these; none if it waits for no call
+abbrev pub AreBlockersBehind : List ℕ → State → ℕ → List ℕ → Type 0
+AreBlockersBehind ahead s t blockers = MatchOption (finite.get s.asks t) (blockers ≡ []) (λ call. blockers ≡ fair_rule ahead s t (accesses_now s call))

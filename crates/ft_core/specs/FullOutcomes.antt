@@ -1,5 +1,6 @@
 -- The outcome of a call that was requested, with all that was made of it.
-use Rattle.std.specs.Prelude.{◌≡◌, Bool, cond, Some, None}
+use Rattle.std.specs.Prelude.{◌≡◌, ℕ, Bool, cond, Some, None}
+use Rattle.std.specs.FinMap as finite
 use Rattle.ft_posix.specs.declared.call.Call.{Call}
 use Rattle.ft_core.specs.declared.parts.Made.{Made}
 use Rattle.ft_core.specs.declared.parts.Tried.{Tried}
@@ -25,6 +26,10 @@ full_answer w = outcome_answer (outcome_of w)
 abbrev pub IsToldInFull : State → Call → FullOutcome → Type 0
 IsToldInFull s call (full.Granted k made reply kept accesses) = (made ≡ call) × (kept ≡ Some reply) × (accesses.items ≡ accesses_now s call)
 IsToldInFull s call (full.Waits blockers) = Unit {0}
+
+-- all that was made of the call that t waits for
+abbrev pub IsPendingToldInFull : State → ℕ → FullOutcome → Type 0
+IsPendingToldInFull s t outcome = (call : Call) × (finite.get s.asks t ≡ Some call) × IsToldInFull s call outcome
 
 -- the reply of a call that was tried and made, a second time if that was wanted
 abbrev pub IsTwice : Bool → Made → Tried → Type 0

@@ -1,6 +1,6 @@
 -- The contents of a journal as clauses see them: the events, and what is noted of the live
 -- transactions.
-use Rattle.std.specs.Prelude.{ℕ, ◌<◌, ◌+◌, ◌-◌, Bool, ◌||◌, nat_le, List, [], ◌∷◌, ◌++◌, Option, Some, None, IsSome, refl}
+use Rattle.std.specs.Prelude.{◌≡◌, ℕ, ◌<◌, ◌+◌, ◌-◌, Bool, ◌||◌, nat_le, List, [], ◌∷◌, ◌++◌, Option, Some, None, IsSome, refl}
 use Rattle.std.specs.Option.{option_flatten}
 use Rattle.std.specs.Ordering.{nat_cmp}
 use Rattle.std.specs.FinMap as finite
@@ -75,6 +75,10 @@ with_call j t call reply accesses = record j {
 abbrev pub asked_for : Option Call → Option Call → Option Call
 asked_for None pending = pending
 asked_for (Some call) pending = Some call
+
+-- the call that is asked for now, or else the one that is waited for, is granted
+abbrev pub GrantsAsk : Journaled → Journaled → ℕ → Option Call → Reply → List Access → Type 0
+GrantsAsk old new t asked reply accesses = (call : Call) → asked_for asked (finite.get old.asks t) ≡ Some call → new ≡ with_call old t call reply accesses
 
 -- t waits for a call that is asked for now, and else waits on
 abbrev pub with_ask : Journaled → ℕ → Option Call → Journaled

@@ -19,6 +19,7 @@ pub mod Surveys
 pub mod Opens
 pub mod Makes
 pub mod Tries
+pub mod Requested
 pub mod Taking
 pub mod Handing
 pub mod PastCode

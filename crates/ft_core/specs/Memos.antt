@@ -55,6 +55,11 @@ AreElsewhere entries (DirAttributes d to ∷ es) = AreElsewhere entries es
 AreElsewhere entries (FileAttributes i to ∷ es) = AreElsewhere entries es
 AreElsewhere entries (Time i to ∷ es) = AreElsewhere entries es
 
+-- a memo that still knows a front knew it before, and none of these edits is of an entry in a
+-- directory on its way
+abbrev pub KeepsUnpassed : Memo → Memo → List Edit → Type 0
+KeepsUnpassed old new edits = (txn : ℕ) → new.txn ≡ Some txn → (old.txn ≡ Some txn) × (new.front ≡ old.front) × AreElsewhere (front_entries old.front) edits
+
 -- these are the reads of the entries on the way of a front that leads there
 pub record IsLearnt (v : View) (front : Front) (reads : List Access) : Type 0 where
   pub leads : Leads v front

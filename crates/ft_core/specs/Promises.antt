@@ -1,5 +1,5 @@
 -- The promises of every state that a core can reach.
-use Rattle.std.specs.Prelude.{◌≡◌, ◌<◌, ℕ, false, List, [], ◌∷◌, ◌++◌, Option, Some}
+use Rattle.std.specs.Prelude.{◌≡◌, ◌<◌, ℕ, false, List, [], ◌∷◌, ◌++◌, Option, Some, Result, Ok}
 use Rattle.ft_laws.specs.Lists.{Each, Pairs}
 use Rattle.ft_cells.specs.Cells.{Cells}
 use Rattle.ft_tree.specs.Tidy.{tidy}
@@ -10,10 +10,11 @@ use Rattle.ft_posix.specs.declared.call.Reply.{Reply}
 use Rattle.ft_posix.specs.declared.call.Access.{Access}
 use Rattle.ft_history.specs.History.Fate.{Live}
 use Rattle.ft_history.specs.Undoing.{IsWithin}
+use Rattle.ft_core.specs.declared.fault.Fault.{Fault}
 use Rattle.ft_core.specs.declared.request.Event.{Event}
 use Rattle.ft_core.specs.declared.request.Event.TheVariants.{Begin, Call as CallEvent}
 use Rattle.ft_core.specs.Histories.{told}
-use Rattle.ft_core.specs.States.{State, history, fate_of, has_live_child, standing_calls, tree_of}
+use Rattle.ft_core.specs.States.{State, history, fate_of, has_live_child, standing_calls, tree_of, count_standing}
 
 -- The headline: tidied, the cells are the tree of the state, which is what the plain tree holds
 -- after only the standing calls, from the base. Made in turn, these calls give the replies that
@@ -33,6 +34,10 @@ pub record IsJustMade (before s : State) (t k : ℕ) : Type 0 where
   pub made : s.events ≡ before.events ++ CallEvent k t call reply accesses ∷ []
   pub alone : has_live_child s t ≡ false
 
+-- An undo of the call just made succeeds with its stamp, and the tree is the one before it.
+abbrev pub RestoresIfJustMade : State → State → ℕ → Result ℕ Fault → Type 0
+RestoresIfJustMade old new t result = (before : State) (k : ℕ) → IsJustMade before old t k → (result ≡ Ok k) × (tree_of new ≡ tree_of before)
+
 -- t is live, and since its begin, before which the state was the one given, the calls, undos and
 -- aborts are only of t's subtree. (A rule of this project.)
 pub record RanAlone (before s : State) (t : ℕ) : Type 0 where
@@ -42,3 +47,8 @@ pub record RanAlone (before s : State) (t : ℕ) : Type 0 where
   pub later : List Event
   pub split : s.events ≡ before.events ++ Begin t up ∷ later
   pub within : Each (IsWithin posix_calls (history s) t) (told later)
+
+-- An abort of a transaction that ran alone succeeds with the count of its standing calls, and the
+-- tree is that of its begin.
+abbrev pub RestoresIfAlone : State → State → ℕ → Result ℕ Fault → Type 0
+RestoresIfAlone old new t result = (before : State) → RanAlone before old t → (result ≡ Ok (count_standing old t)) × (tree_of new ≡ tree_of before)

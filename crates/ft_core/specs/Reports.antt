@@ -1,5 +1,5 @@
 -- The reports of a core: its locks, which transaction waits for which, and live children.
-use Rattle.std.specs.Prelude.{◌≡◌, ◌<◌, ◌↔◌, ℕ, true, Option, Some, None, List, [], ◌∷◌, map}
+use Rattle.std.specs.Prelude.{◌≡◌, ◌<◌, ◌↔◌, ◌++◌, ℕ, true, Option, Some, None, List, [], ◌∷◌, map}
 use Rattle.std.specs.FinMap as finite
 use Rattle.std.specs.Ordering.{nat_cmp, ordering_then}
 use Rattle.std.specs.declared.cmp.Ordering.{Ordering}
@@ -38,6 +38,10 @@ waits s = waits_from s (finite.entries s.asks)
 -- what is listed of one that waits, as such a pair
 abbrev pub as_wait : Pending → ℕ × List ℕ
 as_wait p = (p.txn, p.blockers.items)
+
+-- these waits are listed after those that were
+abbrev pub AddsWaits : List Pending → List Pending → List (ℕ × List ℕ) → Type 0
+AddsWaits old new added = map as_wait new ≡ map as_wait old ++ added
 
 -- its blockers are in rising order, each once
 abbrev pub HasRisingBlockers : Pending → Type 0

@@ -1,5 +1,5 @@
 -- A list of what undoes calls, put to the cells.
-use Rattle.std.specs.Prelude.{List, [], ◌∷◌, map}
+use Rattle.std.specs.Prelude.{◌≡◌, List, [], ◌∷◌, map}
 use Rattle.ft_cells.specs.Cells.{Cells}
 use Rattle.ft_posix.specs.Stored.{put_all}
 use Rattle.ft_undo.specs.declared.logs.LogRecord.{LogRecord}
@@ -14,3 +14,7 @@ taken_back (x ∷ xs) cells = taken_back xs (put_all cells (map given_back x.und
 abbrev pub CanTakeBack : List LogRecord → Cells → Type 0
 CanTakeBack [] cells = Unit {0}
 CanTakeBack (x ∷ xs) cells = CanGiveAllBack cells x.undo × CanTakeBack xs (put_all cells (map given_back x.undo))
+
+-- the newest call of a list, if there is one, is undone
+abbrev pub TakesNewest : List LogRecord → Cells → Cells → Type 0
+TakesNewest records old new = (x : LogRecord) (xs : List LogRecord) → records ≡ x ∷ xs → new ≡ put_all old (map given_back x.undo)

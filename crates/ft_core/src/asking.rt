@@ -7,8 +7,9 @@ ghost use Rattle.ft_core.specs.declared.fault.Fault.TheVariants.{Memory as Memor
 ghost use Rattle.ft_core.specs.declared.request.Request.TheVariants.{Ask, Retry};
 ghost use Rattle.ft_core.specs.Journals.{asked_for};
 ghost use Rattle.ft_core.specs.States.{fate_of, has_most_calls};
-ghost use Rattle.ft_core.specs.FullOutcomes.{IsToldInFull, full_answer};
-ghost use Rattle.ft_core.specs.Steps.{IsStep, IsAsked, exact_rule, refusal_of, refused_with, answer_with, outcome_answer};
+ghost use Rattle.ft_core.specs.FullOutcomes.{IsToldInFull, full_answer, IsPendingToldInFull};
+ghost use Rattle.ft_core.specs.Steps.{IsStep, exact_rule, refusal_of, refused_with, answer_with, outcome_answer};
+ghost use Rattle.ft_core.specs.Requested.{IsRequested, IsRequestedInFull};
 
 use crate::fault::Fault;
 use crate::journal::asked_or;
@@ -87,9 +88,7 @@ impl Core {
     pub fn retry_in_full(&mut self, txn: TxnId) -> Result<FullOutcome, Fault>
         ensures step { IsStep exact_rule self.old.state (Retry txn) (answer_with full_answer result)
             self.new.state }
-        ensures told { IfOk result
-            (λ outcome. (call : CallOf) × (finite.get self.old.state.asks txn ≡ Some call)
-            × IsToldInFull self.old.state call outcome) }
+        ensures told { IfOk result (IsPendingToldInFull self.old.state txn) }
     {
         self.may_retry(txn)?;
         self.request_in_full(txn, None)
@@ -126,9 +125,7 @@ impl Core {
         requires live { fate_of self.old.state txn ≡ Some Live }
         requires some { IsSome (asked_for asked (finite.get self.old.state.asks txn)) }
         ensures asked { IfOk result
-            (λ outcome. (call : CallOf)
-            × (asked_for asked (finite.get self.old.state.asks txn) ≡ Some call)
-            × IsAsked exact_rule self.old.state txn call (outcome_answer outcome) self.new.state) }
+            (IsRequested exact_rule self.old.state self.new.state txn asked) }
         ensures memory { IfErr result (λ fault. fault ≡ MemoryFault) }
         ensures same { OnErr result (self.new.state ≡ self.old.state) }
     {
@@ -176,11 +173,7 @@ impl Core {
         requires few { has_most_calls self.old.state ≡ false }
         requires live { fate_of self.old.state txn ≡ Some Live }
         requires some { IsSome (asked_for asked (finite.get self.old.state.asks txn)) }
-        ensures asked { IfOk result
-            (λ outcome. (call : CallOf)
-            × (asked_for asked (finite.get self.old.state.asks txn) ≡ Some call)
-            × IsAsked exact_rule self.old.state txn call (full_answer outcome) self.new.state
-            × IsToldInFull self.old.state call outcome) }
+        ensures asked { IfOk result (IsRequestedInFull self.old.state self.new.state txn asked) }
         ensures memory { IfErr result (λ fault. fault ≡ MemoryFault) }
         ensures same { OnErr result (self.new.state ≡ self.old.state) }
     {

@@ -1,16 +1,16 @@
 // Fair waiting: a call that nothing blocks waits behind older asks that conflict with it.
-ghost use Rattle.std.specs.Prelude.{◌≡◌, ◌↔◌, ◌++◌, ◌==◌, ◌<◌, [], true, false, Some, IfOk, IfErr, IfSome, OnOk, OnErr, IsSome, IsTrue, MatchOption, is_some, length, map, position};
+ghost use Rattle.std.specs.Prelude.{◌≡◌, ◌↔◌, ◌++◌, ◌==◌, ◌<◌, false, Some, IfOk, IfErr, IfSome, OnOk, OnErr, IsSome, IsTrue, is_some, length, map, position, true};
 ghost use Rattle.std.specs.List.{list_any};
 ghost use Rattle.std.specs.FinMap as finite;
-ghost use Rattle.ft_posix.specs.declared.call.Call.{Call as CallOf};
 ghost use Rattle.ft_history.specs.History.Fate.{Live};
 ghost use Rattle.ft_core.specs.declared.fault.Fault.TheVariants.{Memory as MemoryFault};
 ghost use Rattle.ft_core.specs.declared.request.Request.TheVariants.{Ask, Retry};
-ghost use Rattle.ft_core.specs.Fairness.{are_related, fair_rule, holders, holders_of, holds_back, in_front, waits_behind, waits_behind_from};
+ghost use Rattle.ft_core.specs.Fairness.{are_related, fair_rule, holders, holds_back, in_front, waits_behind, waits_behind_from, AreBlockersBehind};
 ghost use Rattle.ft_core.specs.Journals.{asked_for};
-ghost use Rattle.ft_core.specs.Reports.{as_wait};
-ghost use Rattle.ft_core.specs.States.{accesses_now, after_wait, fate_of, has_most_calls, next_stamp};
-ghost use Rattle.ft_core.specs.Steps.{IsStep, IsAsked, answer_with, outcome_answer};
+ghost use Rattle.ft_core.specs.Reports.{as_wait, AddsWaits};
+ghost use Rattle.ft_core.specs.States.{accesses_now, fate_of, has_most_calls, next_stamp};
+ghost use Rattle.ft_core.specs.Steps.{IsStep, answer_with, outcome_answer};
+ghost use Rattle.ft_core.specs.Requested.{IsRequested, WaitsFor, holders_among};
 
 use crate::conflicts::some_conflict;
 use crate::fault::Fault;
@@ -71,9 +71,8 @@ impl Core {
     /// Returns the blockers of the call that a transaction waits for, in rising order, if it waits
     /// behind these; none if it waits for no call.
     pub fn blockers_behind(&self, txn: TxnId, ahead: &[TxnId]) -> Result<Vec<TxnId>, Memory>
-        ensures { IfOk result (λ blockers. MatchOption (finite.get self.now.state.asks txn)
-            (blockers.items ≡ []) (λ call. blockers.items
-            ≡ fair_rule ahead.now self.now.state txn (accesses_now self.now.state call))) }
+        ensures { IfOk result
+            (λ blockers. AreBlockersBehind ahead.now self.now.state txn blockers.items) }
     {
         match self.journal.pending(txn) {
             None => Ok(Vec::new(self.alloc)),
@@ -111,10 +110,7 @@ impl Core {
         requires live { fate_of self.old.state txn ≡ Some Live }
         requires some { IsSome (asked_for asked (finite.get self.old.state.asks txn)) }
         ensures asked { IfOk result
-            (λ outcome. (call : CallOf)
-            × (asked_for asked (finite.get self.old.state.asks txn) ≡ Some call)
-            × IsAsked (fair_rule ahead.now) self.old.state txn call (outcome_answer outcome)
-            self.new.state) }
+            (IsRequested (fair_rule ahead.now) self.old.state self.new.state txn asked) }
         ensures memory { IfErr result (λ fault. fault ≡ MemoryFault) }
         ensures same { OnErr result (self.new.state ≡ self.old.state) }
     {
@@ -134,9 +130,7 @@ impl Core {
     /// Notes that a transaction waits for a call that is requested now. Without one it waits on.
     fn wait_for(&mut self, txn: TxnId, asked: Option<Call>) -> Result<(), Memory>
         requires live { fate_of self.old.state txn ≡ Some Live }
-        ensures ok { (call : CallOf)
-            → asked_for asked (finite.get self.old.state.asks txn) ≡ Some call
-            → OnOk result (self.new.state ≡ after_wait self.old.state txn call) }
+        ensures ok { OnOk result (WaitsFor self.old.state self.new.state txn asked) }
         ensures err { OnErr result (self.new.state ≡ self.old.state) }
     {
         self.journal.wait(txn, asked)?;
@@ -223,8 +217,8 @@ fn list_behind(
     queue: &[TxnId],
     list: &mut Vec<Pending>,
 ) -> Result<(), Memory>
-    ensures { OnOk result (map as_wait list.new.items ≡ map as_wait list.old.items
-        ++ waits_behind_from core.now.state queue.now (finite.entries asks.now)) }
+    ensures { OnOk result (AddsWaits list.old.items list.new.items
+        (waits_behind_from core.now.state queue.now (finite.entries asks.now))) }
 {
     for (txn, call) in asks.sorted(core.alloc)? {
         let txn = TxnId(txn);
@@ -242,8 +236,7 @@ fn list_holders(
     list: &mut Vec<TxnId>,
 ) -> Result<(), Memory>
     ensures { OnOk result (list.new.items ≡ list.old.items
-        ++ holders_of behind.now.ahead.now core.now.state behind.now.txn behind.now.touched.now
-        (finite.entries asks.now)) }
+        ++ holders_among core.now.state behind.now (finite.entries asks.now)) }
 {
     for (txn, call) in asks.sorted(core.alloc)? {
         let txn = TxnId(txn);

@@ -3,9 +3,8 @@ ghost use Rattle.std.specs.Prelude.{◌≡◌, ◌≤◌, ◌+◌, IsSome, Some,
 ghost use Rattle.std.specs.FinMap as finite;
 ghost use Rattle.std.specs.Option.{option_copied};
 ghost use Rattle.ft_tree.specs.Tidy.{tidy};
-ghost use Rattle.ft_posix.specs.declared.call.Call.{Call as CallOf};
 ghost use Rattle.ft_forest.specs.declared.TheConstants.{LAST_NUMBER as last_number};
-ghost use Rattle.ft_core.specs.Journals.{IsNoted, asked_for, no_events, sub_in, is_full, with_begin, with_call, with_ask, with_event, without, noted_up};
+ghost use Rattle.ft_core.specs.Journals.{IsNoted, asked_for, no_events, sub_in, is_full, with_begin, with_ask, with_event, without, noted_up, GrantsAsk};
 ghost use Rattle.ft_core.specs.Noted.{event_of};
 
 use crate::LAST_NUMBER;
@@ -189,9 +188,7 @@ impl Journal {
         requires few { is_full self.old ≡ false }
         requires some { IsSome (asked_for asked.now (finite.get self.old.asks txn)) }
         ensures pending { result ≡ finite.get self.old.asks txn }
-        ensures told { (call : CallOf)
-            → asked_for asked.now (finite.get self.old.asks txn) ≡ Some call
-            → self.new ≡ with_call self.old txn call reply.now seen.now.accesses }
+        ensures told { GrantsAsk self.old self.new txn asked.now reply.now seen.now.accesses }
     {
         let stamp = self.last_stamp + 1;
         self.past = self.past.and(&Grant {

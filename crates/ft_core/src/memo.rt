@@ -1,12 +1,12 @@
 // The place to which the front of a path leads a transaction that holds the entries on its way.
-ghost use Rattle.std.specs.Prelude.{◌≡◌, ℕ, true, false, None, Some, IfOk, IfSome};
+ghost use Rattle.std.specs.Prelude.{◌≡◌, true, false, None, Some, IfOk, IfSome};
 ghost use Rattle.std.specs.Option.{option_copied, option_to_list};
 ghost use Rattle.ft_tree.specs.Views.{view_of};
 ghost use Rattle.ft_tree.specs.Fronts.{front_entries};
 ghost use Rattle.ft_lock_rules.specs.Rules.{is_strict};
 ghost use Rattle.ft_lock_rules.specs.Surveys.{HasNoHolderAbove};
 ghost use Rattle.ft_core.specs.Surveys.{IsAloneIfChildless};
-ghost use Rattle.ft_core.specs.Memos.{IsHeld, IsTrueOf, StandElsewhere, AreElsewhere, IsLearnt};
+ghost use Rattle.ft_core.specs.Memos.{IsHeld, IsTrueOf, StandElsewhere, AreElsewhere, IsLearnt, KeepsUnpassed};
 
 use crate::parts::Parts;
 use ft_base::Memory;
@@ -64,9 +64,7 @@ impl Memo {
 
     /// Forgets what is known if a directory on the way gets or loses an entry by these edits.
     pub(crate) fn forget_if_passed(&mut self, edits: &Edits<'_>)
-        ensures { (txn : ℕ) → self.new.txn ≡ Some txn → (self.old.txn ≡ Some txn)
-            × (self.new.front ≡ self.old.front)
-            × AreElsewhere (front_entries self.old.front) edits.now }
+        ensures { KeepsUnpassed self.old self.new edits.now }
     {
         if self.txn.is_some() && self.is_one_passed(edits) {
             self.txn = None;

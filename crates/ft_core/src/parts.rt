@@ -1,13 +1,12 @@
 // The parts of a core: the tree, and what is kept alongside it.
-ghost use Rattle.std.specs.Prelude.{◌≡◌, ◌<◌, ◌≤◌, ◌^◌, ◌+◌, ◌∷◌, ℕ, List, [], Some, None, cond, true, false, length, take, map, IfOk, OnOk, OnErr};
+ghost use Rattle.std.specs.Prelude.{◌≡◌, ◌<◌, ◌≤◌, ◌^◌, ◌+◌, ◌∷◌, List, [], Some, None, cond, true, false, length, take, IfOk, OnOk, OnErr};
 ghost use Rattle.ft_base.specs.OwnedLists.{list_in};
 ghost use Rattle.ft_tree.specs.Sound.{AreSoundCells, IsFree};
 ghost use Rattle.ft_posix.specs.Computes.{reply_of, writes_of};
 ghost use Rattle.ft_posix.specs.Edits.{CanEditAll, Apart};
-ghost use Rattle.ft_posix.specs.Stored.{put_all};
 ghost use Rattle.ft_undo.specs.declared.logs.LogRecord.{LogRecord as LoggedOf};
 ghost use Rattle.ft_undo.specs.Logs.{is_open, AreLists, AreOpen};
-ghost use Rattle.ft_undo.specs.Undone.{given_back, CanGiveAllBack};
+ghost use Rattle.ft_undo.specs.Undone.{CanGiveAllBack};
 ghost use Rattle.ft_lock_rules.specs.Locks.{is_opened, AreGranted, AreBlockers};
 ghost use Rattle.ft_lock_rules.specs.Rules.{is_strict};
 ghost use Rattle.ft_lock_rules.specs.Surveys.{HasNoHolderAbove};
@@ -15,7 +14,7 @@ ghost use Rattle.ft_history.specs.Logs.{put, popped, handed};
 ghost use Rattle.ft_core.specs.Handing.{AreHandedUp, MayHandUp};
 ghost use Rattle.ft_core.specs.Makes.{IsMadeOn, IsUnmade};
 ghost use Rattle.ft_core.specs.Surveys.{IsAloneIfChildless};
-ghost use Rattle.ft_core.specs.Taking.{taken_back, CanTakeBack};
+ghost use Rattle.ft_core.specs.Taking.{taken_back, CanTakeBack, TakesNewest};
 ghost use Rattle.std.specs.Option.{option_copied};
 ghost use Rattle.ft_core.specs.Memos.{IsTrueOf, IsHeldIfAny, IsAloneIfAny};
 ghost use Rattle.ft_core.specs.Tries.{IsTried, IsWhole};
@@ -283,8 +282,7 @@ impl Parts {
         requires { (x : LoggedOf) (xs : List LoggedOf) → list_in self.old.logs txn ≡ x ∷ xs
             → CanGiveAllBack self.old.tree x.undo }
         ensures others { self.new ≡ record self.old { tree = self.new.tree; logs = self.new.logs } }
-        ensures cells { (x : LoggedOf) (xs : List LoggedOf) → list_in self.old.logs txn ≡ x ∷ xs
-            → self.new.tree ≡ put_all self.old.tree (map given_back x.undo) }
+        ensures cells { TakesNewest (list_in self.old.logs txn) self.old.tree self.new.tree }
         ensures lists { AreLists self.new.logs (popped (list_in self.old.logs) (Some txn)) }
         ensures opened { AreOpen self.new.logs (is_open self.old.logs) }
     {

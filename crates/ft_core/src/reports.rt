@@ -2,7 +2,7 @@
 ghost use Rattle.std.specs.Prelude.{◌≡◌, ◌<◌, ◌++◌, map, IfOk, OnOk};
 ghost use Rattle.std.specs.FinMap as finite;
 ghost use Rattle.ft_laws.specs.Lists.{Each, Pairs};
-ghost use Rattle.ft_core.specs.Reports.{AreLockLines, HasRisingBlockers, blockers_now, waits_from, waits, as_wait, AreLiveChildren, with_parents};
+ghost use Rattle.ft_core.specs.Reports.{AreLockLines, HasRisingBlockers, blockers_now, waits_from, waits, as_wait, AreLiveChildren, with_parents, AddsWaits};
 
 use crate::manager::Core;
 use ft_base::{Memory, Table};
@@ -74,8 +74,8 @@ impl Core {
 fn list_pending(core: &Core, asks: &Table<Call>, list: &mut Vec<Pending>) -> Result<(), Memory>
     ensures rising { OnOk result (Each HasRisingBlockers list.old.items
         → Each HasRisingBlockers list.new.items) }
-    ensures list { OnOk result (map as_wait list.new.items ≡ map as_wait list.old.items
-        ++ waits_from core.now.state (finite.entries asks.now)) }
+    ensures list { OnOk result (AddsWaits list.old.items list.new.items
+        (waits_from core.now.state (finite.entries asks.now))) }
 {
     for (txn, call) in asks.sorted(core.alloc)? {
         let txn = TxnId(txn);

@@ -278,11 +278,13 @@ impl Forest {
     }
 
     /// Commits a transaction, relative to its parent: an abort above it still removes its calls.
+    /// Returns its parent, if it has one.
     ///
     /// Refuses with `NoTxn`, `Ended`, or `ChildLive` if it has a live child, in this order. Takes
     /// no memory.
-    pub fn commit(&mut self, txn: TxnId) -> Result<(), ForestFault>
+    pub fn commit(&mut self, txn: TxnId) -> Result<Option<TxnId>, ForestFault>
         ensures committed { OnOk result (HasEnded self.old self.new txn Committed) }
+        ensures parent { IfOk result (λ parent. parent ≡ parent_in self.old txn) }
         ensures refused { MatchResult result
             (λ _. commit_refusal self.old txn ≡ None)
             (λ fault. commit_refusal self.old txn ≡ Some fault) }
@@ -292,8 +294,9 @@ impl Forest {
         if self.records.children_of(place) > 0 {
             return Err(ForestFault::ChildLive);
         }
+        let parent = numbered(self.base, self.records.parent_of(place));
         self.end(txn, State::Committed);
-        Ok(())
+        Ok(parent)
     }
 
     /// Aborts a transaction and every live one below it, each before its parent. What had committed

@@ -48,3 +48,7 @@ GivesText old line.Silent text new = (text ≡ []) × (new ≡ old)
 GivesText old line.Bad text new = (text ≡ codes "bad line" ++ 10 ∷ []) × (new ≡ old)
 GivesText old (line.Request request) text new = (answer : Answer) × IsLegal old request answer new × (text ≡ text_of answer ++ 10 ∷ [])
 GivesText old (line.Query report) text new = IsReport old report text × (new ≡ old)
+
+-- The line was not carried out, or it was, and its text is lost.
+abbrev pub MayGiveText : State → ScriptLine → State → Type 0
+MayGiveText old line new = (new ≡ old) ⊎ ((text : List ℕ) × GivesText old line text new)

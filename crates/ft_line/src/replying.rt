@@ -1,7 +1,7 @@
 // One line of a script, carried out.
-ghost use Rattle.std.specs.Prelude.{◌≡◌, ◌⊎◌, ℕ, List, string_bytes, IfOk, OnErr, OnOk};
+ghost use Rattle.std.specs.Prelude.{string_bytes, IfOk, OnErr, OnOk};
 ghost use Rattle.ft_line.specs.Requests.{parse_line};
-ghost use Rattle.ft_line.specs.Lines.{GivesText, IsLegal};
+ghost use Rattle.ft_line.specs.Lines.{GivesText, IsLegal, MayGiveText};
 
 use crate::line::ScriptLine;
 use crate::meaning::parse_line;
@@ -20,8 +20,8 @@ pub fn reply_to(alloc: Global, line: &[u8], core: &mut Core) -> Result<String, M
     ensures ok { IfOk result
         (λ reply. GivesText core.old.state (parse_line line.now) (string_bytes reply)
         core.new.state) }
-    ensures err { OnErr result ((core.new.state ≡ core.old.state) ⊎ ((text : List ℕ)
-        × GivesText core.old.state (parse_line line.now) text core.new.state)) }
+    ensures err { OnErr result
+        (MayGiveText core.old.state (parse_line line.now) core.new.state) }
 {
     let mut reply = String::new(alloc);
     reply_into(alloc, line, core, &mut reply)?;
@@ -41,8 +41,8 @@ pub fn reply_into(
 ) -> Result<(), Memory>
     ensures ok { OnOk result
         (GivesText core.old.state (parse_line line.now) (string_bytes reply.new) core.new.state) }
-    ensures err { OnErr result ((core.new.state ≡ core.old.state) ⊎ ((text : List ℕ)
-        × GivesText core.old.state (parse_line line.now) text core.new.state)) }
+    ensures err { OnErr result
+        (MayGiveText core.old.state (parse_line line.now) core.new.state) }
 {
     reply.clear();
     match parse_line(alloc, line)? {

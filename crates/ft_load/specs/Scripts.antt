@@ -51,6 +51,10 @@ chmod_of path a = option_map (λ mode. calls.Chmod mode path) (said_mode Dir a.m
 abbrev pub futime_of : ℕ → Option Timestamp → Option Call
 futime_of fd time = option_map (calls.Futime fd) time
 
+-- the call that makes a file and opens it for writing
+abbrev pub open_new : List ℕ → Option ℕ → Call
+open_new path mode = calls.Open path (record { access = WriteOnly; create = true; excl = true; trunc = false; append = false; mode = mode })
+
 -- the path of the root
 abbrev pub root_path : List ℕ
 root_path = codes "/"
@@ -60,7 +64,7 @@ root_path = codes "/"
 abbrev pub calls_at : Asked → ℕ → ℕ → List Call
 calls_at Start next fd = []
 calls_at (Folder path a) next fd = calls.Mkdir path (said_mode Dir a.mode) ∷ option_to_list (chown_of path a)
-calls_at (Open path a) next fd = calls.Open path WriteOnly true true false false (said_mode File a.mode) ∷ option_to_list (fchown_of next a)
+calls_at (Open path a) next fd = open_new path (said_mode File a.mode) ∷ option_to_list (fchown_of next a)
 calls_at (Piece bytes) next fd = calls.Write fd bytes ∷ []
 calls_at (Close time) next fd = option_to_list (futime_of fd time) ++ calls.Close fd ∷ []
 calls_at (Link first path) next fd = calls.Link first path ∷ []

@@ -9,7 +9,7 @@ use ft_copy::{CopyFault, Target};
 use ft_core::Limits;
 use ft_needs::NeedsLine;
 use ft_path::{FilePath, PathFault};
-use ft_posix::Call;
+use ft_posix::{Call, OpenFlags};
 use ft_script::write_out;
 use ft_words::CallText;
 use std::alloc::Global;
@@ -119,12 +119,14 @@ impl<W: Write> Target for Script<W> {
     fn open(&mut self, path: &[u8], attributes: Attributes) -> Result<(), CopyFault> {
         let call = Call::Open {
             path: path_of(self.alloc, path)?,
-            access: AccessMode::WriteOnly,
-            create: true,
-            excl: true,
-            trunc: false,
-            append: false,
-            mode: said_mode(Kind::File, attributes.mode),
+            flags: OpenFlags {
+                access: AccessMode::WriteOnly,
+                create: true,
+                excl: true,
+                trunc: false,
+                append: false,
+                mode: said_mode(Kind::File, attributes.mode),
+            },
         };
         let fd = self.next;
         self.ask(&call)?;

@@ -1,10 +1,10 @@
 -- The jobs of the lines so far. No public clause cites them.
-use Rattle.std.specs.Prelude.{◌≡◌, Bool, true, false, ◌&&◌, List, [], ◌∷◌, ◌++◌, Option, None, Some, option_map, map}
+use Rattle.std.specs.Prelude.{◌≡◌, ℕ, Bool, true, false, ◌&&◌, List, [], ◌∷◌, ◌++◌, Option, None, Some, option_map, map}
 use Rattle.ft_plan.specs.declared.job.Job.{Job}
 use Rattle.ft_plan.specs.declared.line.PlanLine.{PlanLine}
 use Rattle.ft_plan.specs.declared.line.PlanLine.TheVariants as line
 use Rattle.ft_plan.specs.declared.parsing.Begun.{Begun}
-use Rattle.ft_plan.specs.Plans.{after_lines}
+use Rattle.ft_plan.specs.Plans.{after_lines, plan_lines, said}
 
 -- the lines of the job that has begun, if one has
 abbrev pub begun_lines : Option Begun → List PlanLine
@@ -62,3 +62,16 @@ IsStray lines next = fits (place_after Ahead lines) next ≡ false
 -- the meaning of lines after others
 abbrev pub behind_all : List PlanLine → Option (List PlanLine) → Option (List PlanLine)
 behind_all so_far more = option_map (λ lines. so_far ++ lines) more
+
+-- the job that has begun, with the steps so far as all its steps
+abbrev pub job_of : Begun → Job
+job_of begun = record { name = begun.name; parent = begun.parent; kind = begun.kind; after = begun.after.items; steps = begun.steps.items }
+
+-- whatever lines come after a line, they mean after the new jobs what the line and they mean after
+-- the old
+abbrev pub TakesLine : Bool → List ℕ → List PlanLine → List PlanLine → Type 0
+TakesLine strict bytes old new = (lines : List (List ℕ)) → behind_all old (said strict (bytes ∷ lines)) ≡ behind_all new (said strict lines)
+
+-- whatever lines come after a line, it and they are no plan after these
+abbrev pub IsInNoPlan : Bool → List ℕ → List PlanLine → Type 0
+IsInNoPlan strict bytes so_far = (lines : List (List ℕ)) (jobs : List Job) → behind_all so_far (said strict (bytes ∷ lines)) ≡ Some (plan_lines jobs) → ⊥

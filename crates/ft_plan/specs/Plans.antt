@@ -111,8 +111,8 @@ is_subs steps.Abort = false
 
 -- a step that is a call `open`
 abbrev pub is_open : Step → Bool
-is_open (steps.Call (calls.Open path access create excl trunc append mode)) = true
-is_open (steps.Try (calls.Open path access create excl trunc append mode)) = true
+is_open (steps.Call (calls.Open path flags)) = true
+is_open (steps.Try (calls.Open path flags)) = true
 is_open step = false
 
 -- the descriptor that a call is on, or 0

@@ -1,9 +1,9 @@
 // From the lines of a plan to its jobs.
-ghost use Rattle.std.specs.Prelude.{◌≡◌, ◌⊎◌, ◌++◌, ◌∷◌, ◌↔◌, [], ℕ, List, IsTrue, OnOk, IfOk, IfErr, IsErrOf, Some};
+ghost use Rattle.std.specs.Prelude.{◌≡◌, ◌⊎◌, ◌++◌, ◌∷◌, ◌↔◌, [], List, IsTrue, OnOk, IfOk, IfErr, IsErrOf, Some};
 ghost use Rattle.ft_words.specs.Spelling.{lines_of};
 ghost use Rattle.ft_plan.specs.Plans.{plan_lines, plan_said, said};
 ghost use Rattle.ft_plan.specs.Lines.{behind_strict, is_strict_line};
-ghost use Rattle.ft_plan.specs.Parsing.{begun_lines, behind_all, IsStray};
+ghost use Rattle.ft_plan.specs.Parsing.{begun_lines, IsStray, TakesLine, IsInNoPlan, job_of};
 
 use crate::fault::JobFault;
 use crate::job::{Job, JobKind, Step};
@@ -85,8 +85,7 @@ impl Begun {
     /// Adds a step.
     fn push(&mut self, step: Step) -> Result<(), Memory>
         ensures steps { OnOk result (self.new.steps.items ≡ self.old.steps.items ++ step ∷ []) }
-        ensures name { (self.new.name ≡ self.old.name) × (self.new.parent ≡ self.old.parent)
-            × (self.new.kind ≡ self.old.kind) × (self.new.after ≡ self.old.after) }
+        ensures others { self.new ≡ record self.old { steps = self.new.steps } }
     {
         self.steps.push(step)?;
         Ok(())
@@ -101,9 +100,7 @@ impl Begun {
 
     /// Returns the job, which has all its steps.
     fn end(self) -> Job
-        ensures { (result.name ≡ self.name) × (result.parent ≡ self.parent)
-            × (result.kind ≡ self.kind) × (result.after ≡ self.after.items)
-            × (result.steps ≡ self.steps.items) }
+        ensures { result ≡ job_of self }
     {
         Job {
             name: self.name,
@@ -149,11 +146,8 @@ impl Jobs {
     /// Takes the meaning of the next line.
     #[tactic(auto, using(crate::proofs::Grouping::said_silent, crate::proofs::Grouping::said_more))]
     fn read(&mut self, alloc: Global, strict: bool, line: &[u8]) -> Result<(), JobFault>
-        ensures ok { OnOk result ((lines : List (List ℕ))
-            → behind_all self.old (said strict (line.now ∷ lines))
-            ≡ behind_all self.new (said strict lines)) }
-        ensures bad { IsErrOf result JobFault.BadPlan → (lines : List (List ℕ)) (jobs : List Job)
-            → behind_all self.old (said strict (line.now ∷ lines)) ≡ Some (plan_lines jobs) → ⊥ }
+        ensures ok { OnOk result (TakesLine strict line.now self.old self.new) }
+        ensures bad { IsErrOf result JobFault.BadPlan → IsInNoPlan strict line.now self.old }
         ensures cause { IfErr result
             (λ fault. (fault ≡ JobFault.BadPlan) ⊎ (fault ≡ JobFault.Memory)) }
     {

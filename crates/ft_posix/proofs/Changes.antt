@@ -403,8 +403,7 @@ pub call-changes : (cells : Cells) → AreSoundCells cells → (k : ℕ) (call :
 call-changes cells sound k (Mkdir path mode) = from_judged-changes cells k false sound (mode_fault mode) false (make_dir k mode) (make_dir-changes cells k false mode) (parts_of path)
 call-changes cells sound k (Rmdir path) = remove_parts-changes cells k false sound (parts_of path)
 call-changes cells sound k (ListDir path) = from_parts-changes cells k false sound true list_dir (list_dir-changes cells k false) (parts_of path)
-call-changes cells sound k (Open path access create excl trunc append mode) =
-    open_parts-changes cells k false sound (record { access = access; create = create; excl = excl; trunc = trunc; append = append; mode = mode }) (parts_of path)
+call-changes cells sound k (Open path flags) = open_parts-changes cells k false sound flags (parts_of path)
 call-changes cells sound k (Close fd) =
     with_open-changes cells k false fd any_open (close_open fd) (λ o is. on_files Done _ (closes fd o is, tt) (tt, tt) (λ x. x) (λ x. absurd x))
 call-changes cells sound k (Read fd len) = with_open-changes cells k true fd is_readable (read_open fd len) (read_open-changes cells k fd len)

@@ -32,8 +32,7 @@ call-goes : (cells : Cells) (k : ℕ) (seen : List Cell) → IsFree cells k → 
 call-goes cells k seen free n (Mkdir path mode) = from_judged-goes cells k seen (mode_fault mode) false (make_dir k mode) (make_dir-goes cells k seen mode) (parts_of path)
 call-goes cells k seen free n (Rmdir path) = remove_parts-goes cells k seen (parts_of path)
 call-goes cells k seen free n (ListDir path) = from_parts-goes cells k seen true list_dir (list_dir-goes cells k seen) (parts_of path)
-call-goes cells k seen free n (Open path access create excl trunc append mode) =
-    open_parts-goes cells k seen (no_open free) (record { access = access; create = create; excl = excl; trunc = trunc; append = append; mode = mode }) (parts_of path)
+call-goes cells k seen free n (Open path flags) = open_parts-goes cells k seen (no_open free) flags (parts_of path)
 call-goes cells k seen free n (Close fd) = with_open-goes cells k seen fd any_open (close_open fd) (close_open-goes cells k seen fd)
 call-goes cells k seen free n (Read fd len) = with_open-goes cells k seen fd is_readable (read_open fd len) (read_open-goes cells k seen fd len)
 call-goes cells k seen free n (WriteCall fd bytes) = with_open-goes cells k seen fd is_writable (write_open cells.limits fd bytes) (write_open-goes cells k seen cells.limits fd bytes)

@@ -307,8 +307,7 @@ pub call-looks : (limits : TreeLimits) (cells : Cells) → AreSoundCells cells �
 call-looks limits cells sound n k (Mkdir path mode) = from_judged-shown cells sound (mode_fault mode) false (make_dir k mode) (make_dir-shown cells k mode) (parts_of path)
 call-looks limits cells sound n k (Rmdir path) = remove_parts-shown cells sound (parts_of path)
 call-looks limits cells sound n k (ListDir path) = from_parts-shown cells sound true list_dir (list_dir-shown cells) (parts_of path)
-call-looks limits cells sound n k (Open path access create excl trunc append mode) =
-    open_parts-shown cells sound k (record { access = access; create = create; excl = excl; trunc = trunc; append = append; mode = mode }) (parts_of path)
+call-looks limits cells sound n k (Open path flags) = open_parts-shown cells sound k flags (parts_of path)
 call-looks limits cells sound n k (Close fd) = with_open-shown cells fd any_open (close_open fd) (λ o named. (tt, tt))
 call-looks limits cells sound n k (Read fd len) = with_open-shown cells fd is_readable (read_open fd len) (λ o named. (named, tt))
 call-looks limits cells sound n k (WriteCall fd bytes) = with_open-shown cells fd is_writable (write_open limits fd bytes) (write_open-shown cells limits fd bytes)

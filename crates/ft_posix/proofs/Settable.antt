@@ -281,7 +281,7 @@ call-sets : (limits : TreeLimits) (most stamp : ℕ) (call : Call) → Sets (ste
 call-sets limits most stamp (Mkdir path mode) = from_judged-sets (mode_fault mode) false (parts_of path) (make_dir stamp mode) (make_dir-sets stamp mode)
 call-sets limits most stamp (Rmdir path) = remove_parts-sets (parts_of path)
 call-sets limits most stamp (ListDir path) = from_parts-sets true (parts_of path) list_dir list_dir-sets
-call-sets limits most stamp (Open path access create excl trunc append mode) = open_parts-sets stamp (record { access = access; create = create; excl = excl; trunc = trunc; append = append; mode = mode }) (parts_of path)
+call-sets limits most stamp (Open path flags) = open_parts-sets stamp flags (parts_of path)
 call-sets limits most stamp (Close fd) = with_open-sets fd any_open (close_open fd) (λ o v. (tt, tt))
 call-sets limits most stamp (Read fd len) = with_open-sets fd is_readable (read_open fd len) (λ o v. (tt, tt))
 call-sets limits most stamp (WriteCall fd bytes) = with_open-sets fd is_writable (write_open limits fd bytes) (write_open-sets limits fd bytes)

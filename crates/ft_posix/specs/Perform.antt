@@ -29,7 +29,7 @@ abbrev pub is_read : Call → Bool
 is_read (Mkdir path mode) = false
 is_read (Rmdir path) = false
 is_read (ListDir path) = false
-is_read (Open path access create excl trunc append mode) = false
+is_read (Open path flags) = false
 is_read (Close fd) = false
 is_read (Read fd len) = true
 is_read (Write fd bytes) = false

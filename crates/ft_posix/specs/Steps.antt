@@ -22,8 +22,7 @@ abbrev pub steps : TreeLimits → ℕ → ℕ → Call → Looks Outcome
 steps limits most stamp (Mkdir path mode) = from_judged (mode_fault mode) false (parts_of path) (make_dir stamp mode)
 steps limits most stamp (Rmdir path) = remove_parts (parts_of path)
 steps limits most stamp (ListDir path) = from_parts true (parts_of path) list_dir
-steps limits most stamp (Open path access create excl trunc append mode) =
-    open_parts stamp (record { access = access; create = create; excl = excl; trunc = trunc; append = append; mode = mode }) (parts_of path)
+steps limits most stamp (Open path flags) = open_parts stamp flags (parts_of path)
 steps limits most stamp (Close fd) = with_open fd any_open (close_open fd)
 steps limits most stamp (Read fd len) = with_open fd is_readable (read_open fd len)
 steps limits most stamp (Write fd bytes) = with_open fd is_writable (write_open limits fd bytes)

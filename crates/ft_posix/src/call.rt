@@ -72,12 +72,7 @@ pub enum Call {
     /// EINVAL, and EISDIR for every access.
     Open {
         path: FilePath,
-        access: AccessMode,
-        create: bool,
-        excl: bool,
-        trunc: bool,
-        append: bool,
-        mode: Option<u16>,
+        flags: OpenFlags,
     },
     /// Closes a descriptor and returns `Done` (POSIX.1-2017, System Interfaces, close).
     ///
@@ -307,15 +302,7 @@ impl Drop for Call {
             Call::Mkdir { path: _, mode: _ }
             | Call::Rmdir { path: _ }
             | Call::List { path: _ }
-            | Call::Open {
-                path: _,
-                access: _,
-                create: _,
-                excl: _,
-                trunc: _,
-                append: _,
-                mode: _,
-            }
+            | Call::Open { path: _, flags: _ }
             | Call::Close { fd: _ }
             | Call::Read { fd: _, len: _ }
             | Call::Write { fd: _, bytes: _ }

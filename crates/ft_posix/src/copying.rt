@@ -22,22 +22,9 @@ impl Call {
             Call::List { path } => Call::List {
                 path: path.try_clone()?,
             },
-            Call::Open {
-                path,
-                access,
-                create,
-                excl,
-                trunc,
-                append,
-                mode,
-            } => Call::Open {
+            Call::Open { path, flags } => Call::Open {
                 path: path.try_clone()?,
-                access: *access,
-                create: *create,
-                excl: *excl,
-                trunc: *trunc,
-                append: *append,
-                mode: *mode,
+                flags: *flags,
             },
             Call::Close { fd } => Call::Close { fd: *fd },
             Call::Read { fd, len } => Call::Read { fd: *fd, len: *len },

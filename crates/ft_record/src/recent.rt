@@ -1,12 +1,12 @@
 // A core that keeps what has happened since it last forgot.
-ghost use Rattle.std.specs.Prelude.{◌≡◌, Ok, drop, length, OnOk, OnErr, MatchBool};
+ghost use Rattle.std.specs.Prelude.{◌≡◌, drop, length, OnOk, OnErr, MatchBool};
 ghost use Rattle.ft_tree.specs.Sweep.{places_in};
-ghost use Rattle.std.specs.Prelude.{◌<◌, ◌+◌, ◌-◌, ◌^◌, ℕ};
+ghost use Rattle.std.specs.Prelude.{◌<◌, ◌+◌, ◌-◌, ◌^◌};
 ghost use Rattle.ft_core.specs.declared.request.Request.TheVariants.{Begin, Sub, Ask, Retry, Drop as DropAsk, Commit, Abort, Undo, Checkpoint};
 ghost use Rattle.ft_core.specs.declared.request.Answer.TheVariants.{Txn, Dropped, Committed, Aborted, Undone, Cleared};
-ghost use Rattle.ft_core.specs.States.{State as StateOf, at_base, tree_of, count_standing};
+ghost use Rattle.ft_core.specs.States.{at_base};
 ghost use Rattle.ft_core.specs.Living.{NoneIsLive};
-ghost use Rattle.ft_core.specs.Promises.{IsJustMade, RanAlone};
+ghost use Rattle.ft_core.specs.Promises.{RestoresIfAlone, RestoresIfJustMade};
 ghost use Rattle.ft_core.specs.Steps.{IsStep, exact_rule, answer_with, outcome_answer};
 ghost use Rattle.ft_core.specs.Sweeps.{HasNoUselessPlace, EachUselessIsLocked};
 ghost use Rattle.ft_record.specs.Recent.{freed_by_commit};
@@ -207,9 +207,7 @@ impl Recent {
         ensures forgotten { self.new.forgotten ≡ self.old.forgotten }
 
         // If it ran alone, the tree is that of its begin.
-        ensures alone { (before : StateOf) → RanAlone before self.old.core.state txn
-            → (result ≡ Ok (count_standing self.old.core.state txn))
-            × (tree_of self.new.core.state ≡ tree_of before) }
+        ensures alone { RestoresIfAlone self.old.core.state self.new.core.state txn result }
     {
         let FullAbort {
             transactions,
@@ -229,8 +227,7 @@ impl Recent {
         ensures forgotten { self.new.forgotten ≡ self.old.forgotten }
 
         // The call just made is undone, and the tree is the one before it.
-        ensures just_made { (before : StateOf) (k : ℕ) → IsJustMade before self.old.core.state txn k
-            → (result ≡ Ok k) × (tree_of self.new.core.state ≡ tree_of before) }
+        ensures just_made { RestoresIfJustMade self.old.core.state self.new.core.state txn result }
     {
         let stamp = self.core.undo_call(txn)?;
         self.past.tell(Event::Undo { stamp });

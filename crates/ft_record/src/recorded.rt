@@ -1,5 +1,5 @@
 // A core that keeps what has happened.
-ghost use Rattle.std.specs.Prelude.{◌≡◌, ◌<◌, ◌≤◌, ◌+◌, ◌-◌, ◌^◌, ℕ, true, cond, Ok, MatchBool, OnOk, OnErr, IfOk, IfErr};
+ghost use Rattle.std.specs.Prelude.{◌≡◌, ◌<◌, ◌≤◌, ◌+◌, ◌-◌, ◌^◌, true, cond, MatchBool, OnOk, OnErr, IfOk, IfErr};
 ghost use Rattle.ft_tree.specs.Tidy.{tidy};
 ghost use Rattle.ft_tree.specs.Sound.{IsSoundTree, AreSoundCells};
 ghost use Rattle.ft_tree.specs.Sweep.{places_in};
@@ -9,12 +9,12 @@ ghost use Rattle.ft_core.specs.declared.request.Request.TheVariants.{Begin, Sub,
 ghost use Rattle.ft_core.specs.declared.request.Answer.TheVariants.{Txn, Dropped, Committed, Aborted, Undone, Cleared};
 ghost use Rattle.ft_core.specs.declared.fault.Fault.TheVariants.{Memory as MemoryFault, BadLimits};
 ghost use Rattle.ft_core.specs.Limits.{default_limits, greatest_limits, are_within};
-ghost use Rattle.ft_core.specs.States.{State as StateOf, at_base, first_state, limits_of, tree_of, count_standing, has_live, fate_in, fate_of, history};
+ghost use Rattle.ft_core.specs.States.{at_base, first_state, limits_of, has_live, fate_in, fate_of, history};
 ghost use Rattle.ft_posix.specs.Posix.{posix_calls};
 ghost use Rattle.ft_history.specs.History.{parent as parent_of};
 ghost use Rattle.ft_core.specs.Journals.{IsBaseTree};
 ghost use Rattle.ft_core.specs.Living.{SomeIsLive, NoneIsLive};
-ghost use Rattle.ft_core.specs.Promises.{IsHeadline, IsJustMade, RanAlone};
+ghost use Rattle.ft_core.specs.Promises.{IsHeadline, RestoresIfAlone, RestoresIfJustMade};
 ghost use Rattle.ft_core.specs.Reached.{IsReached};
 ghost use Rattle.ft_core.specs.Steps.{IsStep, exact_rule, answer_with, outcome_answer};
 ghost use Rattle.ft_core.specs.Sweeps.{HasNoUselessPlace, EachUselessIsLocked};
@@ -217,9 +217,7 @@ impl Recorded {
             self.new.state }
 
         // If it ran alone, the tree is that of its begin.
-        ensures alone { (before : StateOf) → RanAlone before self.old.state txn
-            → (result ≡ Ok (count_standing self.old.state txn))
-            × (tree_of self.new.state ≡ tree_of before) }
+        ensures alone { RestoresIfAlone self.old.state self.new.state txn result }
     {
         self.recent.abort(txn)
     }
@@ -230,8 +228,7 @@ impl Recorded {
             self.new.state }
 
         // The call just made is undone, and the tree is the one before it.
-        ensures just_made { (before : StateOf) (k : ℕ) → IsJustMade before self.old.state txn k
-            → (result ≡ Ok k) × (tree_of self.new.state ≡ tree_of before) }
+        ensures just_made { RestoresIfJustMade self.old.state self.new.state txn result }
     {
         self.recent.undo_call(txn)
     }

@@ -1,8 +1,8 @@
-//! The program `ft_run`: `ft_run play` runs a script of transactions on a tree of directories, from
-//! standard input to standard output; `ft_run dot` draws the last report of which transaction waits
-//! for which among the replies that such a run wrote; `ft_run jobs FILE` runs the jobs of a plan in
-//! threads, and prints their outcome; `ft_run load DIR` writes a script that makes what a directory
-//! holds, and `ft_run save DIR` makes a directory of the tree with which replies end.
+//! The program `ft`: `ft play` runs a script of transactions on a tree of directories, from
+//! standard input to standard output; `ft dot` draws the last report of which transaction waits
+//! for which among the replies that such a run wrote; `ft jobs FILE` runs the jobs of a plan in
+//! threads, and prints their outcome; `ft load DIR` writes a script that makes what a directory
+//! holds, and `ft save DIR` makes a directory of the tree with which replies end.
 //!
 //! It ends with status 0, even after a help text; with 1 after a fault, which a line `fault: NAME`
 //! on standard error reports; and with 2 if the command line is not valid. It ends with 3 if a line
@@ -160,7 +160,7 @@ fn run_script(
     };
     let mut script = front.as_slice().chain(input);
     let mut replies = rt.stdout();
-    let mut errors = rt.stderr();
+    let mut errors = Explained::of_script(rt);
     if strict {
         play_strictly_status(alloc, core, &mut script, &mut replies, &mut errors)
     } else {
@@ -332,7 +332,7 @@ fn load_to<S: Source, W: Write + Drop>(
     let alloc = rt.alloc();
     let set_id = loading.set_id;
     let screen = screen(rt, loading.quiet || rt.stdout().is_terminal());
-    let mut errors = rt.stderr();
+    let mut errors = Explained::of_directory(rt);
     let (_writer, status) = load_status(
         rt,
         alloc,

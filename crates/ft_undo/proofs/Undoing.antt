@@ -21,6 +21,7 @@ use Rattle.ft_posix.specs.Computes.{write_of, writes_of}
 use Rattle.ft_posix.specs.Edits.{edited, CanEdit, CanEditAll, edit_cell, IsOther, Apart, SameOn, EditingLaw}
 use Rattle.ft_laws.specs.Effects.{before}
 use Rattle.ft_posix.specs.Posix.{posix}
+use Rattle.ft_posix.proofs.Edited.{write-cell, same-on}
 use Rattle.ft_posix.specs.CellLaws.{SettingLaw, RestoringLaw}
 use Rattle.ft_undo.specs.declared.undo.BeforeImage.{BeforeImage}
 use Rattle.ft_undo.specs.declared.undo.BeforeImage.TheVariants as back
@@ -79,23 +80,6 @@ was-same s t (Open f to) h = ap (sets (cell.Fd f)) h
 was-same s t (DirAttributes d to) h = ap (sets (cell.DirAttributes d)) h
 was-same s t (FileAttributes i to) h = ap (sets (cell.FileAttributes i)) h
 was-same s t (Time i to) h = ap (sets (cell.Bytes i)) h
-
--- each of them holds what it held
-pub same-on : (s : Cells) (es : List Edit) → SameOn s s es
-same-on s [] = tt
-same-on s (e ∷ es) = (refl, same-on s es)
-
--- an edit writes its cell
-write-cell : (s : Cells) (e : Edit) → written_cell (write_of s e) ≡ edit_cell e
-write-cell s (Entry entry to) = refl
-write-cell s (Parent d to) = refl
-write-cell s (Links i to) = refl
-write-cell s (Overwrite i at bytes) = refl
-write-cell s (Resize i size) = refl
-write-cell s (Open f to) = refl
-write-cell s (DirAttributes d to) = refl
-write-cell s (FileAttributes i to) = refl
-write-cell s (Time i to) = refl
 
 pub written-edits : (s : Cells) (es : List Edit) → map written_cell (writes_of s es) ≡ map edit_cell es
 written-edits s [] = refl

@@ -1,5 +1,5 @@
 -- What is read of a file through an Open that is not made.
-use Rattle.std.proofs.Common.{◌≡◌, ◌≢◌, ℕ, ◌+◌, true, false, List, [], ◌∷◌, Option, Some, None, Result, Ok, Err, ◌⊎◌, inl, inr, refl, sym, ap, ◌∙◌, subst, arith}
+use Rattle.std.proofs.Common.{◌≡◌, ◌≢◌, ℕ, ◌+◌, true, List, [], ◌∷◌, Option, Some, None, Result, Ok, Err, ◌⊎◌, inl, inr, refl, sym, ap, ◌∙◌, subst, arith}
 use Rattle.ft_body.specs.declared.TheConstants.{LARGEST_SIZE}
 use Rattle.ft_body.specs.Bytes.{bytes_at}
 use Rattle.ft_path.specs.declared.errno.Errno.{Errno}
@@ -13,7 +13,6 @@ use Rattle.ft_cells.specs.declared.node.Node.TheVariants.{Dir as DirNode, File a
 use Rattle.ft_cells.specs.declared.node.PathEnd.{PathEnd}
 use Rattle.ft_cells.specs.declared.node.PathEnd.TheVariants.{Named, Itself}
 use Rattle.ft_cells.specs.declared.open_file.OpenFile.{OpenFile}
-use Rattle.ft_cells.specs.declared.open_file.AccessMode.TheVariants.{ReadOnly}
 use Rattle.ft_cells.specs.Cells.{Cells, bytes_of, put_open}
 use Rattle.ft_cells.specs.Looks.{Answer, answer, answer-then, or_else}
 use Rattle.ft_tree.specs.Held.{Holds}
@@ -21,7 +20,6 @@ use Rattle.ft_tree.specs.Sound.{AreSoundCells, IsFree}
 use Rattle.ft_tree.specs.Tidy.{tidy}
 use Rattle.ft_tree.specs.Views.{view_of}
 use Rattle.ft_tree.specs.Walk.{walk}
-use Rattle.ft_posix.specs.declared.call.OpenFlags.{OpenFlags}
 use Rattle.ft_posix.specs.declared.call.Call.TheVariants.{Read as ReadCall}
 use Rattle.ft_posix.specs.declared.call.Reply.{Reply}
 use Rattle.ft_posix.specs.declared.call.Reply.TheVariants.{Number, Bytes as BytesReply}
@@ -39,17 +37,13 @@ use Rattle.ft_posix.proofs.Kept.{soundness, freshness}
 use Rattle.ft_posix.proofs.Setting.{setting}
 use Rattle.ft_view.specs.declared.TheConstants.{READING}
 use Rattle.ft_view.specs.Replay.{IsReadable}
-use Rattle.ft_view.specs.Reading.{open_to_read, read_whole, contents_on, opened_in, whole_told, whole_of}
-
--- the flags of an Open for reading
-abbrev flags : OpenFlags
-flags = record { access = ReadOnly; create = false; excl = false; trunc = false; append = false; mode = None }
+use Rattle.ft_view.specs.Reading.{to_read, open_to_read, read_whole, contents_on, opened_in, whole_told, whole_of}
 
 -- an Open for reading fails, or opens one file
 abbrev Opens : ℕ → Outcome → Type 0
-Opens fd o = ((e : Errno) × (o ≡ failed e)) ⊎ ((file : ℕ) × (o ≡ opens fd flags file))
+Opens fd o = ((e : Errno) × (o ≡ failed e)) ⊎ ((file : ℕ) × (o ≡ opens fd to_read file))
 
-opens_at : (cells : Cells) (fd : ℕ) (end : Result PathEnd Errno) → Opens fd (answer (or_else failed (λ spot. Answer (open_spot fd flags spot)) end) (view_of cells))
+opens_at : (cells : Cells) (fd : ℕ) (end : Result PathEnd Errno) → Opens fd (answer (or_else failed (λ spot. Answer (open_spot fd to_read spot)) end) (view_of cells))
 opens_at cells fd (Err e) = inl (e, refl)
 opens_at cells fd (Ok (Named entry None slash)) = inl (ENOENT, refl)
 opens_at cells fd (Ok (Named entry (Some (DirNode dir)) slash)) = inl (EISDIR, refl)
@@ -57,10 +51,10 @@ opens_at cells fd (Ok (Named entry (Some (FileNode Regular file)) slash)) = inr 
 opens_at cells fd (Ok (Named entry (Some (FileNode Link file)) slash)) = inl (ELOOP, refl)
 opens_at cells fd (Ok (Itself dir)) = inl (EISDIR, refl)
 
-opens_text : (cells : Cells) (fd : ℕ) (parts : Result Parts Errno) → Opens fd (answer (open_parts fd flags parts) (view_of cells))
+opens_text : (cells : Cells) (fd : ℕ) (parts : Result Parts Errno) → Opens fd (answer (open_parts fd to_read parts) (view_of cells))
 opens_text cells fd (Err e) = inl (e, refl)
 opens_text cells fd (Ok parts) =
-    subst (Opens fd) (sym (answer-then (walk true parts.names parts.trailing) (or_else failed (λ spot. Answer (open_spot fd flags spot))) (view_of cells)))
+    subst (Opens fd) (sym (answer-then (walk true parts.names parts.trailing) (or_else failed (λ spot. Answer (open_spot fd to_read spot))) (view_of cells)))
     (opens_at cells fd (answer (walk true parts.names parts.trailing) (view_of cells)))
 
 -- the file of a description that is written first
@@ -102,12 +96,12 @@ told_alike cells None told = refl
 told_alike cells (Some file) told = refl
 
 -- through the description of an Open the file is read from its start
-read_opened : (cells : Cells) (file : ℕ) → AreSoundCells (put_open cells READING (Some (description flags file))) → IsFree (put_open cells READING (Some (description flags file))) (READING + 1)
-    → read_whole (tidy (put_open cells READING (Some (description flags file)))) (Number READING) ≡ through cells (Some file) (Number READING)
+read_opened : (cells : Cells) (file : ℕ) → AreSoundCells (put_open cells READING (Some (description to_read file))) → IsFree (put_open cells READING (Some (description to_read file))) (READING + 1)
+    → read_whole (tidy (put_open cells READING (Some (description to_read file)))) (Number READING) ≡ through cells (Some file) (Number READING)
 read_opened cells file sound free =
-    let opened = put_open cells READING (Some (description flags file)) in
+    let opened = put_open cells READING (Some (description to_read file)) in
     ap (λ p. p.1) (tidying opened (READING + 1) (ReadCall READING LARGEST_SIZE) sound free)
-    ∙ ap (λ (place : Option OpenFile). (answer (on_open is_readable (read_open READING LARGEST_SIZE) place) (view_of opened)).reply) (setting.written cells (cell.Fd READING) (Some (description flags file)))
+    ∙ ap (λ (place : Option OpenFile). (answer (on_open is_readable (read_open READING LARGEST_SIZE) place) (view_of opened)).reply) (setting.written cells (cell.Fd READING) (Some (description to_read file)))
 
 -- what the cells hold after the Open, and what it has replied
 abbrev ReadsThrough : Cells → Outcome → Type 0

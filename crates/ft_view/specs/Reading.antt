@@ -6,6 +6,7 @@ use Rattle.ft_cells.specs.declared.open_file.AccessMode.TheVariants.{ReadOnly}
 use Rattle.ft_cells.specs.Plain.{PlainTree}
 use Rattle.ft_posix.specs.declared.call.Call.{Call}
 use Rattle.ft_posix.specs.declared.call.Call.TheVariants.{Stat as StatCall, Lstat as LstatCall, Readlink as ReadlinkCall, List as ListCall, Open as OpenCall, Read as ReadCall}
+use Rattle.ft_posix.specs.declared.call.OpenFlags.{OpenFlags}
 use Rattle.ft_posix.specs.declared.call.Reply.{Reply}
 use Rattle.ft_posix.specs.declared.call.Reply.TheVariants.{Number}
 use Rattle.ft_posix.specs.declared.intent.Edit.{Edit}
@@ -19,9 +20,13 @@ use Rattle.ft_view.specs.declared.answering.Question.{Question}
 use Rattle.ft_view.specs.declared.answering.Question.TheVariants.{Stat, Lstat, Link, List as ListDir, File}
 use Rattle.ft_view.specs.Replay.{reply_on}
 
--- the call that opens a file for reading, with no flag and no mode
+-- for reading, with no flag and no mode
+abbrev pub to_read : OpenFlags
+to_read = record { access = ReadOnly; create = false; excl = false; trunc = false; append = false; mode = None }
+
+-- the call that opens a file for reading
 abbrev pub open_to_read : List ℕ → Call
-open_to_read path = OpenCall path ReadOnly false false false false None
+open_to_read path = OpenCall path to_read
 
 -- the reply of a `read` of as many bytes as a file may have, after an `open` with this reply, or
 -- the error of the `open`

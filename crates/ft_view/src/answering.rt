@@ -8,7 +8,7 @@ ghost use Rattle.ft_view.specs.Reading.{contents_on, answer_on, opened_in, whole
 use crate::READING;
 use ft_base::Memory;
 use ft_body::LARGEST_SIZE;
-use ft_calls::{Call, Edit, Edits, Intent, PlannedReply, Prepared, Reply, prepare};
+use ft_calls::{Call, Edit, Edits, Intent, OpenFlags, PlannedReply, Reply, intend};
 use ft_path::FilePath;
 use ft_tree::{AccessMode, HintedFile, ROOT, Tree};
 use std::alloc::Global;
@@ -60,11 +60,7 @@ fn reply(alloc: Global, tree: &Tree, call: &Call) -> Result<Reply, Memory>
     requires { IsReadable tree.now }
     ensures { IfOk result (λ reply. reply ≡ reply_on (tidy tree.now) call.now) }
 {
-    let Prepared {
-        accesses: _,
-        intent,
-    } = prepare(alloc, tree, READING, call)?;
-    intent.reply(alloc, tree)
+    intend(alloc, tree, READING, call)?.reply(alloc, tree)
 }
 
 /// Returns the reply of a Read of the whole file after an Open for reading, or the error of the
@@ -77,18 +73,16 @@ fn contents(alloc: Global, tree: &Tree, path: &FilePath) -> Result<Reply, Memory
 {
     let open = Call::Open {
         path: path.try_clone()?,
-        access: AccessMode::ReadOnly,
-        create: false,
-        excl: false,
-        trunc: false,
-        append: false,
-        mode: None,
+        flags: OpenFlags {
+            access: AccessMode::ReadOnly,
+            create: false,
+            excl: false,
+            trunc: false,
+            append: false,
+            mode: None,
+        },
     };
-    let Prepared {
-        accesses: _,
-        intent,
-    } = prepare(alloc, tree, READING, &open)?;
-    let Intent { told, edits } = intent;
+    let Intent { told, edits } = intend(alloc, tree, READING, &open)?;
     let told = whole(told, &edits);
     Intent { told, edits }.reply(alloc, tree)
 }

@@ -1,11 +1,11 @@
 -- The text of a call: its name and its arguments, as a line of words has them (docs/SCRIPT.md).
 -- An empty last word is left out with the space before it, but for the path behind the mode of a
 -- `mkdir`: a mode alone would be a path.
-use Rattle.std.specs.Prelude.{ℕ, Bool, List, [], ◌++◌, codes, Option, None, Some}
+use Rattle.std.specs.Prelude.{ℕ, List, [], ◌++◌, codes, Option, None, Some}
 use Rattle.std.specs.Fmt.{decimal, signed_decimal}
-use Rattle.ft_cells.specs.declared.open_file.AccessMode.{AccessMode}
 use Rattle.ft_posix.specs.declared.call.Call.{Call}
 use Rattle.ft_posix.specs.declared.call.Call.TheVariants as calls
+use Rattle.ft_posix.specs.declared.call.OpenFlags.{OpenFlags}
 use Rattle.ft_posix.specs.declared.call.Whence.{Whence}
 use Rattle.ft_posix.specs.declared.call.Whence.TheVariants.{Set, Cur, End}
 use Rattle.ft_words.specs.Modes.{mode_text, owner_text, time_text}
@@ -17,10 +17,10 @@ given_mode_text None = []
 given_mode_text (Some mode) = codes "=" ++ mode_text mode
 
 -- FLAGS: `r`, `w` or `rw`, a letter for each flag, and the mode that is given
-abbrev pub flags_text : AccessMode → Bool → Bool → Bool → Bool → Option ℕ → List ℕ
-flags_text access create excl trunc append mode =
-    access_text access ++ flag_text create (codes "c") ++ flag_text excl (codes "x") ++ flag_text trunc (codes "t") ++ flag_text append (codes "a")
-    ++ given_mode_text mode
+abbrev pub flags_text : OpenFlags → List ℕ
+flags_text flags =
+    access_text flags.access ++ flag_text flags.create (codes "c") ++ flag_text flags.excl (codes "x") ++ flag_text flags.trunc (codes "t")
+    ++ flag_text flags.append (codes "a") ++ given_mode_text flags.mode
 
 -- WHENCE: from where an offset counts
 abbrev pub whence_text : Whence → List ℕ
@@ -34,7 +34,7 @@ call_text (calls.Mkdir path None) = codes "mkdir" ++ data_text path
 call_text (calls.Mkdir path (Some mode)) = codes "mkdir " ++ mode_text mode ++ codes " " ++ coded path
 call_text (calls.Rmdir path) = codes "rmdir" ++ data_text path
 call_text (calls.List path) = codes "list" ++ data_text path
-call_text (calls.Open path access create excl trunc append mode) = codes "open " ++ flags_text access create excl trunc append mode ++ data_text path
+call_text (calls.Open path flags) = codes "open " ++ flags_text flags ++ data_text path
 call_text (calls.Close fd) = codes "close " ++ decimal fd
 call_text (calls.Read fd len) = codes "read " ++ decimal fd ++ codes " " ++ decimal len
 call_text (calls.Write fd bytes) = codes "write " ++ decimal fd ++ data_text bytes

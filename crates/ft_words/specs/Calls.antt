@@ -117,7 +117,7 @@ abbrev pub path_calls : List CallRow
 path_calls =
     row (codes "mkdir") parse_optional_mode_path (λ a. calls.Mkdir a.1 a.0)
     ∷ row (codes "rmdir") (last parse_path) calls.Rmdir
-    ∷ row (codes "open") (both parse_flags (last parse_path)) (λ a. calls.Open a.1 a.0.access a.0.create a.0.excl a.0.trunc a.0.append a.0.mode)
+    ∷ row (codes "open") (both parse_flags (last parse_path)) (λ a. calls.Open a.1 a.0)
     ∷ row (codes "truncate") (both parse_i64 (last parse_path)) (λ a. calls.Truncate a.0 a.1)
     ∷ row (codes "stat") (last parse_path) calls.Stat
     ∷ row (codes "link") (both parse_path (last parse_path)) (λ a. calls.Link a.0 a.1)

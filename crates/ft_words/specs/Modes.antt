@@ -1,6 +1,7 @@
 -- How modes, owners and times are written, where they are read and where they are printed
 -- (docs/SCRIPT.md).
-use Rattle.std.specs.Prelude.{ℕ, ◌-◌, ◌^◌, Bool, false, ◌&&◌, ◌==◌, nat_lt, nat_le, List, ◌++◌, length, replicate, codes, if◌then◌else◌, Option, None, Some, option_and_then, option_map}
+use Rattle.std.specs.Prelude.{ℕ, ◌+◌, ◌*◌, ◌-◌, ◌^◌, Bool, false, ◌&&◌, ◌==◌, nat_lt, nat_le, List, ◌++◌, length, replicate, codes, if◌then◌else◌, Option, None, Some, option_and_then, option_map}
+use Rattle.std.specs.Char.{digit_value}
 use Rattle.std.specs.Fmt.{decimal, signed_decimal, digits}
 use Rattle.std.specs.Int.{is_in_range}
 use Rattle.std.specs.List.{list_all}
@@ -15,6 +16,11 @@ use Rattle.ft_words.specs.Spelling.{parse_u32}
 -- `0` to `7`
 abbrev pub is_octal_digit : ℕ → Bool
 is_octal_digit b = is_in_range 48 55 b
+
+-- the mode with this digit after its own digits; none if the byte is no octal digit, or if the mode
+-- would be above 07777
+abbrev pub with_octal_digit : ℕ → ℕ → Option ℕ
+with_octal_digit mode byte = if is_octal_digit byte && nat_lt (mode * 8 + digit_value byte) (8 ^ 4) then Some (mode * 8 + digit_value byte) else None
 
 -- A mode is 1 to 5 octal digits, with a value of at most 07777.
 abbrev pub is_mode : List ℕ → Bool

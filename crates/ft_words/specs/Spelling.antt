@@ -1,9 +1,9 @@
 -- How words are written: lines, words, numbers, percent coding. The format is this project's own
 -- (docs/SCRIPT.md); percent coding is that of the URL Standard, section 1.3.
-use Rattle.std.specs.Prelude.{ℕ, ℤ, pos, neg_ℤ, ◌^◌, Bool, true, false, ◌&&◌, ◌≡◌, ◌==◌, nat_lt, nat_le, List, [], ◌∷◌, length, if◌then◌else◌, Option, None, Some, option_and_then}
+use Rattle.std.specs.Prelude.{ℕ, ℤ, pos, neg_ℤ, ◌+◌, ◌*◌, ◌^◌, Bool, true, false, ◌&&◌, ◌≡◌, ◌==◌, nat_lt, nat_le, List, [], ◌∷◌, ◌++◌, length, if◌then◌else◌, Option, None, Some, option_and_then}
 use Rattle.std.specs.Borrow.{Bor}
 use Rattle.std.specs.List.{onto_first, slice_split, list_any, list_all}
-use Rattle.std.specs.Char.{is_ascii_digit}
+use Rattle.std.specs.Char.{is_ascii_digit, digit_value}
 use Rattle.std.specs.Str.Lines.{strip_carriage_return}
 use Rattle.std.specs.Str.Parse.{digits_value}
 use Rattle.percent_encoding.specs.Percent.{percent_decode}
@@ -12,6 +12,10 @@ use Rattle.ft_path.specs.Name.{has_nul}
 -- the byte is nowhere in the text
 abbrev pub IsFreeOf : ℕ → List ℕ → Type 0
 IsFreeOf byte text = list_any (λ b. b == byte) text ≡ false
+
+-- the first place of the byte in the text is between these
+abbrev pub IsSplitAt : ℕ → List ℕ → List ℕ → List ℕ → Type 0
+IsSplitAt byte text front back = IsFreeOf byte front × (text ≡ front ++ byte ∷ back)
 
 -- The lines of a script. Each ends at a line feed, which is no part of it, and which the last may
 -- lack. Bytes that end in a line feed have no further, empty line.
@@ -43,6 +47,11 @@ abbrev pub stripped : ℕ → List (List ℕ) → Option (List (List ℕ))
 stripped byte [] = None
 stripped byte ([] ∷ words) = None
 stripped byte ((b ∷ bs) ∷ words) = if b == byte then Some (bs ∷ words) else None
+
+-- the number with this digit after its own digits; none if the byte is no digit, or if the number
+-- would not be below 2^64
+abbrev pub with_digit : ℕ → ℕ → Option ℕ
+with_digit number byte = if is_ascii_digit byte && nat_lt (number * 10 + digit_value byte) (2 ^ 64) then Some (number * 10 + digit_value byte) else None
 
 -- A number is 1 to 20 decimal digits, with a value below 2^64.
 abbrev pub is_number : List ℕ → Bool

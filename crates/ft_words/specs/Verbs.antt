@@ -24,7 +24,7 @@ abbrev pub verb_of : Call → Verb
 verb_of (calls.Mkdir path mode) = Mkdir
 verb_of (calls.Rmdir path) = OnPath path_verbs.Rmdir
 verb_of (calls.List path) = OnPath path_verbs.List
-verb_of (calls.Open path access create excl trunc append mode) = Open
+verb_of (calls.Open path flags) = Open
 verb_of (calls.Close fd) = OnDescriptor descriptor_verbs.Close
 verb_of (calls.Read fd len) = OnDescriptor descriptor_verbs.Read
 verb_of (calls.Write fd bytes) = OnDescriptor descriptor_verbs.Write
@@ -129,7 +129,7 @@ descriptor_call descriptor_verbs.Futime words = option_map (λ a. calls.Futime a
 abbrev pub call_by : Verb → List (List ℕ) → Option Call
 call_by (OnPath verb) words = option_map (on_path verb) (last parse_path words)
 call_by Mkdir words = option_map (λ a. calls.Mkdir a.1 a.0) (parse_optional_mode_path words)
-call_by Open words = option_map (λ a. calls.Open a.1 a.0.access a.0.create a.0.excl a.0.trunc a.0.append a.0.mode) (both parse_flags (last parse_path) words)
+call_by Open words = option_map (λ a. calls.Open a.1 a.0) (both parse_flags (last parse_path) words)
 call_by Truncate words = option_map (λ a. calls.Truncate a.0 a.1) (both parse_i64 (last parse_path) words)
 call_by (OnPaths verb) words = option_map (λ a. on_paths verb a.0 a.1) (both parse_path (last parse_path) words)
 call_by Chmod words = option_map (λ a. calls.Chmod a.0 a.1) (both parse_mode (last parse_path) words)

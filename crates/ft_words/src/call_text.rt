@@ -85,25 +85,7 @@ fn arguments(call: &Call) -> (Argument<'_>, Argument<'_>, Argument<'_>)
         Call::Symlink { target, path } => {
             (Absent, Path(target.as_bytes()), Last(path.as_bytes()))
         }
-        Call::Open {
-            path,
-            access,
-            create,
-            excl,
-            trunc,
-            append,
-            mode,
-        } => {
-            let flags = OpenFlags {
-                access: *access,
-                create: *create,
-                excl: *excl,
-                trunc: *trunc,
-                append: *append,
-                mode: *mode,
-            };
-            (Absent, Flags(flags), Last(path.as_bytes()))
-        }
+        Call::Open { path, flags } => (Absent, Flags(*flags), Last(path.as_bytes())),
         Call::Truncate { len, path } => (Absent, Integer(*len), Last(path.as_bytes())),
         Call::Close { fd } | Call::Fstat { fd } => (Absent, Absent, Number(*fd)),
         Call::Read { fd, len } => (Absent, Number(*fd), Number(*len)),
@@ -138,9 +120,7 @@ fn arguments(call: &Call) -> (Argument<'_>, Argument<'_>, Argument<'_>)
 struct FlagsText(OpenFlags);
 
 impl fmt::Display for FlagsText {
-    ghost output = { λ text. Some
-        (flags_text text.0.access text.0.create text.0.excl text.0.trunc text.0.append
-        text.0.mode) };
+    ghost output = { λ text. Some (flags_text text.0) };
 
     fn fmt<W: fmt::Write>(&self, f: &mut fmt::Formatter<W>) -> fmt::Result {
         let access = access_text(self.0.access);

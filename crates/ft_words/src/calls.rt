@@ -12,8 +12,7 @@ use crate::arguments::{
 use crate::parse_error::ParseError;
 use crate::verbs::{DESCRIPTOR_VERBS, DescriptorVerb, VERBS, Verb, spelled};
 use crate::words::Words;
-use ft_path::FilePath;
-use ft_posix::{Call, OpenFlags};
+use ft_posix::Call;
 use ft_tree::Timestamp;
 use std::alloc::Global;
 
@@ -59,7 +58,7 @@ fn read_call(alloc: Global, verb: Verb, words: Words<'_>) -> Result<Call, ParseE
         }
         Verb::Open => {
             let (flags, path) = parse_flags_path(alloc, words)?;
-            Ok(open(flags, path))
+            Ok(Call::Open { path, flags })
         }
         Verb::Truncate => {
             let (len, path) = parse_size_path(alloc, words)?;
@@ -148,21 +147,5 @@ fn read_descriptor_call(
             };
             Ok(Call::Futime { fd, time })
         }
-    }
-}
-
-/// Returns the call that opens the file at a path with these flags.
-fn open(flags: OpenFlags, path: FilePath) -> Call
-    ensures { result ≡ Call.Open path flags.access flags.create flags.excl flags.trunc flags.append
-        flags.mode }
-{
-    Call::Open {
-        path,
-        access: flags.access,
-        create: flags.create,
-        excl: flags.excl,
-        trunc: flags.trunc,
-        append: flags.append,
-        mode: flags.mode,
     }
 }

@@ -1,7 +1,6 @@
 // Modes, and their owners.
-ghost use Rattle.std.specs.Prelude.{◌≡◌, ◌+◌, ◌*◌, ◌^◌, ◌≤◌, ◌&&◌, nat_lt, if◌then◌else◌, Some, None};
-ghost use Rattle.std.specs.Char.{digit_value};
-ghost use Rattle.ft_words.specs.Modes.{is_octal_digit, parse_mode, parse_owner, mode_text, owner_text, attributes_text, time_text};
+ghost use Rattle.std.specs.Prelude.{◌≡◌, ◌+◌, ◌*◌, ◌≤◌, Some, None};
+ghost use Rattle.ft_words.specs.Modes.{parse_mode, parse_owner, mode_text, owner_text, attributes_text, time_text, with_octal_digit};
 
 use crate::numbers::parse_u32;
 use ft_tree::{Attributes, MOST_MODE, Timestamp};
@@ -25,8 +24,7 @@ pub fn parse_mode(word: &[u8]) -> Option<u16>
 /// digit, or if the mode would be above 07777.
 fn with_octal_digit(mode: u16, byte: u8) -> Option<u16>
     requires { mode ≤ MOST_MODE }
-    ensures { result ≡ (if is_octal_digit byte && nat_lt (mode * 8 + digit_value byte) (8 ^ 4)
-        then Some (mode * 8 + digit_value byte) else None) }
+    ensures { result ≡ with_octal_digit mode byte }
 {
     if !matches!(byte, b'0'..=b'7') {
         return None;

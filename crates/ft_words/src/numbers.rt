@@ -1,7 +1,6 @@
 // Numbers.
-ghost use Rattle.std.specs.Prelude.{◌≡◌, ◌+◌, ◌*◌, ◌^◌, ◌&&◌, nat_lt, if◌then◌else◌, Some, None};
-ghost use Rattle.std.specs.Char.{is_ascii_digit, digit_value};
-ghost use Rattle.ft_words.specs.Spelling.{parse_u64, parse_u32, parse_i64, not_negative, negative};
+ghost use Rattle.std.specs.Prelude.{◌≡◌, ◌*◌, Some, None};
+ghost use Rattle.ft_words.specs.Spelling.{parse_u64, parse_u32, parse_i64, not_negative, negative, with_digit};
 
 /// The number that a word of 1 to 20 digits stands for, where it is below 2^64.
 pub fn parse_u64(word: &[u8]) -> Option<u64>
@@ -20,8 +19,7 @@ pub fn parse_u64(word: &[u8]) -> Option<u64>
 /// Returns the number with this digit after its own digits. Returns `None` if the byte is no digit,
 /// or if the number would not be below 2^64.
 fn with_digit(number: u64, byte: u8) -> Option<u64>
-    ensures { result ≡ (if is_ascii_digit byte && nat_lt (number * 10 + digit_value byte) (2 ^ 64)
-        then Some (number * 10 + digit_value byte) else None) }
+    ensures { result ≡ with_digit number byte }
 {
     if !byte.is_ascii_digit() {
         return None;

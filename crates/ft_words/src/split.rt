@@ -1,6 +1,6 @@
 // Where a byte stands in a text.
-ghost use Rattle.std.specs.Prelude.{◌≡◌, ◌∷◌, ◌++◌, MatchOption};
-ghost use Rattle.ft_words.specs.Spelling.{IsFreeOf};
+ghost use Rattle.std.specs.Prelude.{MatchOption};
+ghost use Rattle.ft_words.specs.Spelling.{IsFreeOf, IsSplitAt};
 
 use bstr::ByteSlice;
 
@@ -8,7 +8,7 @@ use bstr::ByteSlice;
 /// there.
 pub fn split_once(byte: u8, text: &[u8]) -> Option<(&[u8], &[u8])>
     ensures { MatchOption result (IsFreeOf byte text.now)
-        (λ parts. IsFreeOf byte parts.0.now × (text.now ≡ parts.0.now ++ byte ∷ parts.1.now)) }
+        (λ parts. IsSplitAt byte text.now parts.0.now parts.1.now) }
 {
     match text.find_byte(byte) {
         None => None,
@@ -20,7 +20,7 @@ pub fn split_once(byte: u8, text: &[u8]) -> Option<(&[u8], &[u8])>
 /// there. This is for a byte that is likely to be near.
 pub(crate) fn split_near(byte: u8, text: &[u8]) -> Option<(&[u8], &[u8])>
     ensures { MatchOption result (IsFreeOf byte text.now)
-        (λ parts. IsFreeOf byte parts.0.now × (text.now ≡ parts.0.now ++ byte ∷ parts.1.now)) }
+        (λ parts. IsSplitAt byte text.now parts.0.now parts.1.now) }
 {
     for (at, other) in text.iter().enumerate() {
         if *other == byte {

@@ -10,7 +10,6 @@ use Rattle.ft_body.specs.Bytes.{fitting, room_at}
 use Rattle.ft_cells.specs.declared.cell.Cell.TheVariants.{Bytes}
 use Rattle.ft_cells.specs.declared.limits.TreeLimits.{TreeLimits}
 use Rattle.ft_cells.specs.declared.node.PathEnd.{PathEnd}
-use Rattle.ft_cells.specs.declared.open_file.AccessMode.{AccessMode}
 use Rattle.ft_cells.specs.declared.open_file.OpenFile.{OpenFile}
 use Rattle.ft_cells.specs.Looks.{Looks, Answer, Look, then}
 use Rattle.ft_cells.specs.Modes.{can_write}
@@ -22,7 +21,7 @@ use Rattle.ft_posix.specs.Outcomes.{Outcome, failed, from_judged, from_parts, un
 use Rattle.ft_posix.specs.Dirs.{make_dir, remove_parts, list_dir}
 use Rattle.ft_posix.specs.Links.{link_parts, unlink_spot, rename_parts}
 use Rattle.ft_posix.specs.Symlinks.{target_fault, make_link, symlink_parts, read_link}
-use Rattle.ft_posix.specs.Files.{open_parts, open_spot, truncate_parts, stat_spot}
+use Rattle.ft_posix.specs.Files.{is_exclusive, open_parts, open_spot, truncate_parts, stat_spot}
 use Rattle.ft_posix.specs.Descriptors.{with_open, any_open, is_writable, write_place, write_open, has_written, pwrite_at, pwrite_open, has_pwritten}
 use Rattle.ft_posix.specs.Steps.{steps}
 use Prim.Native.Nat.{max}
@@ -78,22 +77,22 @@ make_dir-cut : (stamp : ℕ) (parts : Result Parts Errno) (mode : Option ℕ) �
 make_dir-cut stamp parts None = refl
 make_dir-cut stamp parts (Some mode) = judged-cut false parts (λ m. make_dir stamp (Some m)) mode
 
--- how a file is opened, with a mode
-abbrev opening : AccessMode → Bool → Bool → Bool → Bool → Option ℕ → OpenFlags
-opening access create excl trunc append mode = record { access = access; create = create; excl = excl; trunc = trunc; append = append; mode = mode }
+-- how a file is opened, with another mode
+abbrev opening : OpenFlags → Option ℕ → OpenFlags
+opening flags mode = record flags { mode = mode }
 
 either_fault : (b : Bool) → cond b (Some EINVAL) (Some EINVAL) ≡ Some EINVAL
 either_fault true = refl
 either_fault false = refl
 
-open-cut : (stamp : ℕ) (access : AccessMode) (create excl trunc append : Bool) (mode : Option ℕ) (parts : Result Parts Errno)
-    → open_parts stamp (opening access create excl trunc append (option_map cut_mode mode)) parts ≡ open_parts stamp (opening access create excl trunc append mode) parts
-open-cut stamp access create excl trunc append None parts = refl
-open-cut stamp access create excl trunc append (Some mode) parts =
-    by_mode (λ m. open_parts stamp (opening access create excl trunc append (Some m)) parts) (from_judged (Some EINVAL) (not (create && excl)) parts (λ spot. Answer (failed EINVAL)))
-    (λ m h. ap (λ (o : Option Errno). from_judged (cond (trunc && not (can_write access)) (Some EINVAL) o) (not (create && excl)) parts (λ spot. Answer (open_spot stamp (opening access create excl trunc append (Some m)) spot))) (too_large m h)
-    ∙ ap (λ (o : Option Errno). from_judged o (not (create && excl)) parts (λ spot. Answer (open_spot stamp (opening access create excl trunc append (Some m)) spot))) (either_fault (trunc && not (can_write access)))
-    ∙ judged_fault (not (create && excl)) parts (λ spot. Answer (open_spot stamp (opening access create excl trunc append (Some m)) spot))) mode
+open-cut : (stamp : ℕ) (flags : OpenFlags) (mode : Option ℕ) (parts : Result Parts Errno) → open_parts stamp (opening flags (option_map cut_mode mode)) parts ≡ open_parts stamp (opening flags mode) parts
+open-cut stamp flags None parts = refl
+open-cut stamp flags (Some mode) parts =
+    let go : ℕ → PathEnd → Looks Outcome = λ m spot. Answer (open_spot stamp (opening flags (Some m)) spot) in
+    by_mode (λ m. open_parts stamp (opening flags (Some m)) parts) (from_judged (Some EINVAL) (not (is_exclusive flags)) parts (λ spot. Answer (failed EINVAL)))
+    (λ m h. ap (λ (o : Option Errno). from_judged (cond (flags.trunc && not (can_write flags.access)) (Some EINVAL) o) (not (is_exclusive flags)) parts (go m)) (too_large m h)
+    ∙ ap (λ (o : Option Errno). from_judged o (not (is_exclusive flags)) parts (go m)) (either_fault (flags.trunc && not (can_write flags.access)))
+    ∙ judged_fault (not (is_exclusive flags)) parts (go m)) mode
 
 fchmod_open-cut : (mode : ℕ) (d : OpenFile) → fchmod_open (cut_mode mode) d ≡ fchmod_open mode d
 fchmod_open-cut mode d = by_mode (λ m. fchmod_open m d) (Answer (failed EINVAL)) (λ m h. ap (λ (o : Option Errno). unless o (change_file (with_mode m) d.file)) (too_large m h)) mode
@@ -129,8 +128,7 @@ pub steps_of_cut : (limits : TreeLimits) (most stamp : ℕ) (call : Call) → st
 steps_of_cut limits most stamp (Mkdir path mode) = (λ i. from_judged (mode_fault (option_map cut_mode mode)) false (parts_of_cut path i) (make_dir stamp (option_map cut_mode mode))) ∙ make_dir-cut stamp (parts_of path) mode
 steps_of_cut limits most stamp (Rmdir path) = λ i. remove_parts (parts_of_cut path i)
 steps_of_cut limits most stamp (ListDir path) = λ i. from_parts true (parts_of_cut path i) list_dir
-steps_of_cut limits most stamp (Open path access create excl trunc append mode) =
-    (λ i. open_parts stamp (opening access create excl trunc append (option_map cut_mode mode)) (parts_of_cut path i)) ∙ open-cut stamp access create excl trunc append mode (parts_of path)
+steps_of_cut limits most stamp (Open path flags) = (λ i. open_parts stamp (opening flags (option_map cut_mode flags.mode)) (parts_of_cut path i)) ∙ open-cut stamp flags flags.mode (parts_of path)
 steps_of_cut limits most stamp (Close fd) = refl
 steps_of_cut limits most stamp (Read fd len) = refl
 steps_of_cut limits most stamp (Write fd bytes) =

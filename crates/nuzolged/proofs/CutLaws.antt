@@ -44,7 +44,7 @@ left-left : (limits : TreeLimits) (call : Call) → cut_of limits (cut_of limits
 left-left limits (Mkdir path mode) = λ i. Mkdir (path-left path i) (modes-left mode i)
 left-left limits (Rmdir path) = ap Rmdir (path-left path)
 left-left limits (ListDir path) = ap ListDir (path-left path)
-left-left limits (Open path access create excl trunc append mode) = λ i. Open (path-left path i) access create excl trunc append (modes-left mode i)
+left-left limits (Open path flags) = λ i. Open (path-left path i) (record flags { mode = modes-left flags.mode i })
 left-left limits (Close fd) = refl
 left-left limits (Read fd len) = refl
 left-left limits (Write fd bytes) = ap (Write fd) (take-take (most_of limits) (most_of limits) bytes (omega arith))

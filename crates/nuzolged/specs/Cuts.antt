@@ -48,7 +48,7 @@ abbrev pub cut_of : TreeLimits → Call → Call
 cut_of limits (Mkdir path mode) = Mkdir (cut_path path) (option_map cut_mode mode)
 cut_of limits (Rmdir path) = Rmdir (cut_path path)
 cut_of limits (ListDir path) = ListDir (cut_path path)
-cut_of limits (Open path access create excl trunc append mode) = Open (cut_path path) access create excl trunc append (option_map cut_mode mode)
+cut_of limits (Open path flags) = Open (cut_path path) (record flags { mode = option_map cut_mode flags.mode })
 cut_of limits (Close fd) = Close fd
 cut_of limits (Read fd len) = Read fd len
 cut_of limits (Write fd bytes) = Write fd (cut_bytes limits bytes)

@@ -4,6 +4,7 @@ use Rattle.ft_cells.specs.declared.open_file.AccessMode.{AccessMode}
 use Rattle.ft_cells.specs.declared.open_file.AccessMode.TheVariants.{ReadOnly, WriteOnly, ReadWrite}
 use Rattle.ft_posix.specs.declared.call.Call.{Call}
 use Rattle.ft_posix.specs.declared.call.Call.TheVariants.{Open}
+use Rattle.ft_posix.specs.declared.call.OpenFlags.{OpenFlags}
 use Rattle.nuzolged.specs.declared.flags.Opening.{Opening}
 use Rattle.nuzolged.specs.declared.flags.TheConstants.{ACCESS, CREATE, EXCL, TRUNC, APPEND, FLAGS}
 
@@ -32,6 +33,10 @@ opening_with flags access = record {
 abbrev pub opening_of : ℕ → Option Opening
 opening_of flags = cond (bit_and flags FLAGS == flags) (option_map (opening_with flags) (access_of (bit_and flags ACCESS))) None
 
+-- how a file is opened, with the mode of a file that is made
+abbrev pub with_mode : Opening → Option ℕ → OpenFlags
+with_mode opening mode = record { access = opening.access; create = opening.create; excl = opening.excl; trunc = opening.trunc; append = opening.append; mode = mode }
+
 -- the call that opens a file so
 abbrev pub open_call : List ℕ → Opening → Option ℕ → Call
-open_call path opening mode = Open path opening.access opening.create opening.excl opening.trunc opening.append mode
+open_call path opening mode = Open path (with_mode opening mode)

@@ -17,7 +17,7 @@ use crate::flags::{Opening, opening_of};
 use crate::handle::Handle;
 use crate::nuz_answer::NuzAnswer;
 use crate::parts::copy_data;
-use ft_calls::Call;
+use ft_calls::{Call, OpenFlags};
 use ft_path::FilePath;
 use std::alloc::Global;
 
@@ -356,12 +356,14 @@ fn open(
         Ok(path) => {
             let opens = Call::Open {
                 path,
-                access: opening.access,
-                create: opening.create,
-                excl: opening.excl,
-                trunc: opening.trunc,
-                append: opening.append,
-                mode: mode.map(mode_of),
+                flags: OpenFlags {
+                    access: opening.access,
+                    create: opening.create,
+                    excl: opening.excl,
+                    trunc: opening.trunc,
+                    append: opening.append,
+                    mode: mode.map(mode_of),
+                },
             };
             call(alloc, tree, txn, opens)
         }

@@ -214,18 +214,18 @@ fn choices(rt: HostRuntime) -> Result<(), Fail> {
     assert!(rt; is_play(alloc, &["play"]));
     assert!(rt; is_play_by(alloc, &["play", "--moss"], Rule::Moss));
     assert!(rt; is_dot(alloc, &["dot"]));
-    assert!(rt; is_usage(alloc, &[], "Usage: ft_run <COMMAND>"));
+    assert!(rt; is_usage(alloc, &[], "Usage: ft <COMMAND>"));
     assert!(rt; is_usage(alloc, &["dance"], "unrecognized subcommand 'dance'"));
     assert!(rt; is_usage(alloc, &["play", "now"], "'now'"));
     assert!(rt;
         is_help(
             alloc,
             &["--help"],
-            "ft_run play < script.ft | ft_run dot | dot -Tsvg"
+            "ft play < script.ft | ft dot | dot -Tsvg"
         )
     );
     assert!(rt; is_help(alloc, &["play", "--help"], "play"));
-    assert!(rt; is_help(alloc, &["--version"], "ft_run 0.1.0"));
+    assert!(rt; is_help(alloc, &["--version"], "ft 0.1.0"));
     Ok(())
 }
 

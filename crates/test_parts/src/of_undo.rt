@@ -4,7 +4,7 @@ ghost use Rattle.std.specs.Prelude.{◌≢◌, ◌≤◌, ℕ, OnOk};
 ghost use Rattle.ft_tree.specs.Sound.{AreSoundCells, IsFree};
 
 use ft_base::Memory;
-use ft_calls::{Access, Call, Mode, Reply, accesses};
+use ft_calls::{Access, Call, Mode, OpenFlags, Reply, accesses};
 use ft_path::{Errno, FilePath};
 use ft_tree::{AccessMode, Attributes, Cell, Kind, Timestamp, Tree};
 use ft_undo::{perform, revert};
@@ -84,12 +84,14 @@ fn call_of(alloc: Global, call: CallRef) -> Result<Call, Fail> {
 fn open_of(path: FilePath) -> Call {
     Call::Open {
         path,
-        access: AccessMode::ReadWrite,
-        create: true,
-        excl: false,
-        trunc: false,
-        append: false,
-        mode: None,
+        flags: OpenFlags {
+            access: AccessMode::ReadWrite,
+            create: true,
+            excl: false,
+            trunc: false,
+            append: false,
+            mode: None,
+        },
     }
 }
 

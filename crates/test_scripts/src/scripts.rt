@@ -1,5 +1,5 @@
 // Requests, and the answers that they are to get from a core, however it is reached.
-use ft_calls::{Call, Reply};
+use ft_calls::{Call, OpenFlags, Reply};
 use ft_core::{Answer, Core, Fault, Request, TxnId};
 use ft_path::{Errno, FilePath, Name};
 use ft_record::Recorded;
@@ -109,12 +109,14 @@ fn file_call(alloc: Global, line: Line) -> Result<(u64, Call), Fail> {
             let path = FilePath::new(alloc, path)?;
             let call = Call::Open {
                 path,
-                access: AccessMode::ReadWrite,
-                create: true,
-                excl: false,
-                trunc: false,
-                append: false,
-                mode: None,
+                flags: OpenFlags {
+                    access: AccessMode::ReadWrite,
+                    create: true,
+                    excl: false,
+                    trunc: false,
+                    append: false,
+                    mode: None,
+                },
             };
             Ok((txn, call))
         }

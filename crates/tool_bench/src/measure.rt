@@ -2,7 +2,7 @@
 use crate::failed::Failed;
 use crate::growth::Growth;
 use crate::paths::{Level, Place, path};
-use ft_calls::{Call, Reply, Whence};
+use ft_calls::{Call, OpenFlags, Reply, Whence};
 use ft_path::FilePath;
 use ft_tree::AccessMode;
 use std::alloc::Global;
@@ -93,12 +93,14 @@ fn open(alloc: Global, growth: &mut Growth) -> Result<u64, Failed> {
     let path = path(alloc, b"/f".as_slice())?;
     let call = Call::Open {
         path,
-        access: AccessMode::ReadWrite,
-        create: true,
-        excl: false,
-        trunc: false,
-        append: false,
-        mode: None,
+        flags: OpenFlags {
+            access: AccessMode::ReadWrite,
+            create: true,
+            excl: false,
+            trunc: false,
+            append: false,
+            mode: None,
+        },
     };
     number(growth, &call)
 }

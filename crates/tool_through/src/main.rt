@@ -1,4 +1,4 @@
-//! The program `tool_through`: it plays the script on standard input as `ft_run play` does, but
+//! The program `tool_through`: it plays the script on standard input as `ft play` does, but
 //! through a lock, request by request, and prints the same replies.
 //!
 //! A script that requests a checkpoint ends it, since there is none through a lock.

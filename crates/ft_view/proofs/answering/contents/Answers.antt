@@ -11,14 +11,14 @@ use Rattle.ft_view.proofs.Reading.{contents_are}
 use Rattle.ft_view.proofs.answering.contents.Goals as goal
 
 -- the number is free, so nothing is stored of it
-pub prepare-requires : goal.prepare-requires
-prepare-requires c = record { fresh = no_bytes (c.requires.free READING (omega arith)) }
+pub intend-requires : goal.intend-requires
+intend-requires c = no_bytes (c.requires.free READING (omega arith))
 
 pub returns : goal.returns
 returns c =
     let cells = c.args.tree.now in
     let copied : c.in_ok-try_clone.field-0 ≡ c.args.path.now = search rules in
-    let comes = c.in_ok-intent.ensures.outcome ∙ ap (λ (path : List ℕ). outcome cells READING (open_to_read path)) copied in
+    let comes = c.in_ok-told.ensures ∙ ap (λ (path : List ℕ). outcome cells READING (open_to_read path)) copied in
     let same : reply_of cells c.whole-told.result ≡ contents_on (tidy cells) c.args.path.now =
-    ap (λ (told : PlannedReply). reply_of cells told) c.whole-told.ensures ∙ contents_are cells c.requires c.args.path.now c.in_ok-intent.field-0.intent comes in
+    ap (λ (told : PlannedReply). reply_of cells told) c.whole-told.ensures ∙ contents_are cells c.requires c.args.path.now c.in_ok-told.field-0 comes in
     subst (λ (reply : Reply). IfOk c.reply.result (λ told. told ≡ reply)) same c.reply.ensures.reply

@@ -10,13 +10,13 @@ use Rattle.ft_view.specs.declared.TheConstants.{READING}
 use Rattle.ft_view.proofs.answering.reply.Goals as goal
 
 -- the number is free, so nothing is stored of it
-pub prepare-requires : goal.prepare-requires
-prepare-requires c = record { fresh = no_bytes (c.requires.free READING (omega arith)) }
+pub intend-requires : goal.intend-requires
+intend-requires c = no_bytes (c.requires.free READING (omega arith))
 
 pub returns : goal.returns
 returns c =
     let cells = c.args.tree.now in
     let call = c.args.call.now in
     let plain = tidying cells READING call c.requires.sound (c.requires.free READING (omega arith)) in
-    let same : reply_of cells c.in_ok-intent.field-0.intent.told ≡ reply_on (tidy cells) call = ap (λ (o : Outcome). o.reply) c.in_ok-intent.ensures.outcome ∙ sym (ap (λ p. p.1) plain) in
+    let same : reply_of cells c.in_ok-intend.field-0.told ≡ reply_on (tidy cells) call = ap (λ (o : Outcome). o.reply) c.in_ok-intend.ensures ∙ sym (ap (λ p. p.1) plain) in
     subst (λ (reply : Reply). IfOk c.reply.result (λ told. told ≡ reply)) same c.reply.ensures.reply

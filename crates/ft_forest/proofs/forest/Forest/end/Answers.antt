@@ -1,4 +1,4 @@
-use Rattle.std.proofs.Common.{◌≡◌, ◌<◌, ◌∙◌, ℕ, length, sym, ap, subst}
+use Rattle.std.proofs.Common.{◌<◌, ◌∙◌, ℕ, sym, ap, subst}
 use Rattle.ft_forest.specs.Transactions.{Transactions, state_in, IsLiveChild, HasEnded}
 use Rattle.ft_forest.specs.Records.{transactions_of}
 use Rattle.ft_forest.proofs.Changing.{live-links, live-begun, live-kept, parent-kept, older-kept, younger-kept, records-ended, value-ended}

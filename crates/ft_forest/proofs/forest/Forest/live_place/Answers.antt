@@ -1,12 +1,8 @@
-use Rattle.std.proofs.Common.{◌≡◌, ◌<◌, ◌≤◌, ◌∙◌, length, Some, None, sym, ap, subst, arith}
-use Rattle.std.proofs.lemmas.List.{length-map}
-use Rattle.std.proofs.lemmas.Option.{slice_get_past}
-use Rattle.ft_forest.specs.declared.state.State.TheVariants.{Live}
-use Rattle.ft_forest.specs.Transactions.{Transactions, state_in}
+use Rattle.std.proofs.Common.{◌<◌, ◌≤◌, ◌∙◌, sym, ap, subst}
+use Rattle.ft_forest.specs.Transactions.{state_in}
 use Rattle.ft_forest.specs.Refusals.{refusal_of}
-use Rattle.ft_forest.specs.Records.{links_of, number_at, state_from}
-use Rattle.ft_forest.proofs.Seeing.{state-here, state-none, live-of}
-use Rattle.ft_forest.proofs.Changing.{live-begun}
+use Rattle.ft_forest.specs.Records.{links_of}
+use Rattle.ft_forest.proofs.Seeing.{state-here, live-of}
 use Rattle.ft_forest.proofs.Refusing.{ended_refused}
 use Rattle.ft_forest.proofs.forest.Forest.live_place.Goals as goal
 

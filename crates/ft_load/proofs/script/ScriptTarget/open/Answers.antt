@@ -1,10 +1,8 @@
-use Rattle.std.proofs.Common.{ap₂, true, false, refl, ◌∙◌}
+use Rattle.std.proofs.Common.{ap₂, refl, ◌∙◌}
 use Rattle.std.proofs.lemmas.Result.{on_ok_weaker}
 use Rattle.ft_copy.proofs.Stopping.{at_fault, if_err}
 use Rattle.ft_copy.specs.Asked.{Open}
-use Rattle.ft_cells.specs.declared.open_file.AccessMode.TheVariants.{WriteOnly}
-use Rattle.ft_posix.specs.declared.call.Call.TheVariants as calls
-use Rattle.ft_load.specs.Scripts.{fchown_of}
+use Rattle.ft_load.specs.Scripts.{fchown_of, open_new}
 use Rattle.ft_load.proofs.Scripting.{first_breaks, second_breaks, two_done}
 use Rattle.ft_load.proofs.script.ScriptTarget.open.Goals as goal
 
@@ -14,7 +12,7 @@ returns-in_err-ask-clause-err g c =
     let old = g.W.Write.contents self.writer in
     let new = g.W.Write.contents c.ask.new.self.writer in
     at_fault c.from_residual-in_err-ask.result c.from_residual-in_err-ask.ensures.1
-    (λ t is. first_breaks self.limits (Open c.args.path.now c.args.attributes) self.next self.fd refl _ _ (fchown_of self.next c.args.attributes) (fchown_of self.next c.args.attributes) (ap₂ (λ path mode. calls.Open path WriteOnly true true false false mode) c.in_ok-path_of.ensures.ok c.said_mode.ensures) refl refl t _ old new is c.in_err-ask.ensures.err)
+    (λ t is. first_breaks self.limits (Open c.args.path.now c.args.attributes) self.next self.fd refl _ _ (fchown_of self.next c.args.attributes) (fchown_of self.next c.args.attributes) (ap₂ open_new c.in_ok-path_of.ensures.ok c.said_mode.ensures) refl refl t _ old new is c.in_err-ask.ensures.err)
 
 pub returns-clause-ok : goal.returns-clause-ok
 returns-clause-ok g c =
@@ -24,7 +22,7 @@ returns-clause-ok g c =
     let new = g.W.Write.contents c.ask_if.new.self.writer in
     on_ok_weaker c.ask_if.result
     (λ asked. (
-      two_done self.limits (Open c.args.path.now c.args.attributes) self.next self.fd refl _ _ _ _ (ap₂ (λ path mode. calls.Open path WriteOnly true true false false mode) c.in_ok-path_of.ensures.ok c.said_mode.ensures) c.fchown_of.ensures refl refl c.ask.new.self.limits _ _ _ old middle new c.ask.ensures.limits c.ask_if.ensures.fd c.in_ok-ask.ensures.call asked,
+      two_done self.limits (Open c.args.path.now c.args.attributes) self.next self.fd refl _ _ _ _ (ap₂ open_new c.in_ok-path_of.ensures.ok c.said_mode.ensures) c.fchown_of.ensures refl refl c.ask.new.self.limits _ _ _ old middle new c.ask.ensures.limits c.ask_if.ensures.fd c.in_ok-ask.ensures.call asked,
       c.ask_if.ensures.limits ∙ c.ask.ensures.limits,
     ))
     c.ask_if.ensures.call
@@ -36,5 +34,5 @@ returns-clause-err g c =
     let middle = g.W.Write.contents c.ask.new.self.writer in
     let new = g.W.Write.contents c.ask_if.new.self.writer in
     if_err c.ask_if.result
-    (λ t failed. second_breaks self.limits (Open c.args.path.now c.args.attributes) self.next self.fd refl _ _ _ _ (ap₂ (λ path mode. calls.Open path WriteOnly true true false false mode) c.in_ok-path_of.ensures.ok c.said_mode.ensures) c.fchown_of.ensures refl t c.ask.new.self.limits _ old middle new c.ask.ensures.limits c.in_ok-ask.ensures.call failed)
+    (λ t failed. second_breaks self.limits (Open c.args.path.now c.args.attributes) self.next self.fd refl _ _ _ _ (ap₂ open_new c.in_ok-path_of.ensures.ok c.said_mode.ensures) c.fchown_of.ensures refl t c.ask.new.self.limits _ old middle new c.ask.ensures.limits c.in_ok-ask.ensures.call failed)
     c.ask_if.ensures.err
