@@ -6,7 +6,7 @@ use Rattle.ft_body.specs.declared.TheConstants.{LARGEST_SIZE, BLOCK_SIZE}
 use Rattle.ft_body.specs.declared.blocks.Placed.{Placed}
 use Rattle.ft_body.specs.declared.blocks.LostBlocks.{LostBlocks}
 use Rattle.ft_body.specs.declared.blocks.LostBlocks.TheVariants.{Nothing, Made, Changed, Tail, Last}
-use Rattle.ft_body.specs.Paging.{EndsWithNoZero}
+use Rattle.ft_body.specs.Paging.{EndsWithNoZero, IsWritten, IsFront}
 
 -- a place for a block with no bytes
 abbrev pub no_block : Placed
@@ -20,6 +20,18 @@ placed_at blocks i = slice_index_or blocks i no_block
 abbrev pub block_in : List Placed → ℕ → List ℕ
 block_in [] at = []
 block_in (first ∷ more) at = cond (first.at == at) first.block (block_in more at)
+
+-- the block with a number in its place, or one with no bytes if there is no such block
+abbrev pub placed_in : List Placed → ℕ → Placed
+placed_in blocks at = record { at = at; block = block_in blocks at }
+
+-- the blocks with the bytes of the one at an index changed
+abbrev pub changed_at : List Placed → ℕ → (List ℕ → List ℕ) → List Placed
+changed_at blocks index change = slice_set blocks index record { at = (placed_at blocks index).at; block = change (placed_at blocks index).block }
+
+-- the blocks with the last one moved to an index
+abbrev pub last_moved_to : List Placed → ℕ → List Placed
+last_moved_to blocks index = take index blocks ++ drop (length blocks - 1) blocks ++ take (length blocks - 1 - index) (drop index blocks)
 
 -- the byte at an index of a body, or zero if no byte is kept there
 abbrev pub byte_of : List Placed → ℕ → ℕ
@@ -52,10 +64,22 @@ pub record IsPlace (blocks : List Placed) (at i : ℕ) : Type 0 where
   pub before : (k : ℕ) → k < i → (placed_at blocks k).at < at
   pub behind : (k : ℕ) → i ≤ k → k < length blocks → at ≤ (placed_at blocks k).at
 
+-- the blocks with other numbers are the same
+abbrev pub KeepsOthers : List Placed → List Placed → ℕ → Type 0
+KeepsOthers old new at = (n : ℕ) → n ≢ at → block_in new n ≡ block_in old n
+
 -- the block with a number became these bytes, and the others are the same
 pub record IsReplaced (old new : List Placed) (at : ℕ) (block : List ℕ) : Type 0 where
   pub there : block_in new at ≡ block
-  pub others : (n : ℕ) → n ≢ at → block_in new n ≡ block_in old n
+  pub others : KeepsOthers old new at
+
+-- the block in this place became what it was with bytes written from `start` on
+abbrev pub IsWrittenIn : Placed → List Placed → ℕ → List ℕ → Type 0
+IsWrittenIn was blocks start bytes = IsWritten (slice_index was.block) (slice_index (block_in blocks was.at)) start bytes
+
+-- the block in this place became what it was before `size`, with zeros from there on
+abbrev pub IsCutIn : Placed → List Placed → ℕ → Type 0
+IsCutIn was blocks size = IsFront (slice_index was.block) (slice_index (block_in blocks was.at)) size
 
 -- what a step destroyed can be put back
 abbrev pub FitsBack : LostBlocks → List Placed → Type 0
@@ -70,9 +94,9 @@ FitsBack (Last index) after = index < length after
 abbrev pub step_back : LostBlocks → List Placed → List Placed
 step_back Nothing after = after
 step_back (Made index) after = remove after index
-step_back (Changed index undo) after = slice_set after index record { at = (placed_at after index).at; block = undo.before }
+step_back (Changed index undo) after = changed_at after index (λ _. undo.before)
 step_back (Tail kept blocks) after = take kept after ++ drop kept blocks.items
-step_back (Last index) after = take index after ++ drop (length after - 1) after ++ take (length after - 1 - index) (drop index after)
+step_back (Last index) after = last_moved_to after index
 
 -- steps bring back the blocks from before, the last step first
 abbrev pub Undoes : List LostBlocks → List Placed → List Placed → Type 0

@@ -1,6 +1,7 @@
 -- The bytes of a file (POSIX.1-2017, Base Definitions, 3.164 File): what a read gives, and what a
 -- write and a change of the length leave. XSH is POSIX.1-2017, System Interfaces.
 use Rattle.std.specs.Prelude.{ℕ, ◌+◌, ◌-◌, List, [], ◌∷◌, ◌++◌, length, take, drop, replicate}
+use Rattle.ft_body.specs.declared.TheConstants.{LARGEST_SIZE}
 
 -- the bytes from an offset on, at most `count`; at or past the end there are none (XSH read, pread)
 abbrev pub bytes_at : List ℕ → ℕ → ℕ → List ℕ
@@ -33,6 +34,11 @@ laid_over bytes offset others = take offset bytes ++ others ++ drop (offset + le
 abbrev pub written : List ℕ → ℕ → List ℕ → List ℕ
 written bytes offset [] = bytes
 written bytes offset (first ∷ more) = laid_over (padded bytes offset) offset (first ∷ more)
+
+-- the bytes after a write at an offset: as many of the others were written as there is room for below
+-- the largest size (XSH write, pwrite)
+abbrev pub after_write : List ℕ → ℕ → List ℕ → List ℕ
+after_write bytes offset others = written bytes offset (fitting LARGEST_SIZE others offset)
 
 -- a change of a body: its bytes before and after
 pub record BodyChange : Type 0 where

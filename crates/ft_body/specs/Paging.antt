@@ -1,5 +1,5 @@
 -- The pages of a body: which pages are made, and which bytes they hold. (Rules of this project.)
-use Rattle.std.specs.Prelude.{◌≡◌, ◌≢◌, ℕ, ◌+◌, ◌-◌, ◌*◌, ◌/◌, ◌%◌, ◌<◌, ◌≤◌, ◌==◌, Bool, true, not, ◌⊎◌, List, [], length, take, drop, map, count_by, slice_index, slice_index_or}
+use Rattle.std.specs.Prelude.{◌≡◌, ◌≢◌, ℕ, ◌+◌, ◌-◌, ◌*◌, ◌/◌, ◌%◌, ◌<◌, ◌≤◌, ◌==◌, Bool, true, not, ◌⊎◌, List, [], ◌++◌, length, take, drop, map, count_by, slice_index, slice_index_or}
 use Rattle.std.specs.List.{list_any, range_with_len}
 use Rattle.ft_body.specs.declared.TheConstants.{BLOCK_SIZE, PAGE_SIZE}
 
@@ -66,6 +66,11 @@ pub record IsWritten (old new : ℕ → ℕ) (start : ℕ) (bytes : List ℕ) : 
   pub before : (k : ℕ) → k < start → new k ≡ old k
   pub there : (k : ℕ) → k < length bytes → new (start + k) ≡ slice_index bytes k
   pub behind : (k : ℕ) → start + length bytes ≤ k → new k ≡ old k
+
+-- `count` bytes were appended: those that `byte` gives by index from `start` on
+abbrev pub AppendsBytes : (ℕ → ℕ) → ℕ → ℕ → List ℕ → List ℕ → Type 0
+AppendsBytes byte start count old new =
+    (bytes : List ℕ) × (new ≡ old ++ bytes) × (length bytes ≡ count) × ((k : ℕ) → k < count → slice_index bytes k ≡ byte (start + k))
 
 -- `new` gives the bytes of `old` before an index, and zeros from there on
 pub record IsFront (old new : ℕ → ℕ) (size : ℕ) : Type 0 where

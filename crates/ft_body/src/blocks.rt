@@ -1,9 +1,9 @@
 // The blocks of a body in a list by their numbers, and the steps by which they change.
-ghost use Rattle.std.specs.Prelude.{◌≡◌, ℕ, List, [], ◌∷◌, ◌++◌, ◌+◌, ◌-◌, ◌<◌, ◌≤◌, ◌≢◌, length, take, drop, vec_len, slice_index_or, slice_set, IfOk, IfErr, OnOk, OnErr, MatchOption};
+ghost use Rattle.std.specs.Prelude.{◌≡◌, ℕ, List, [], ◌∷◌, ◌++◌, ◌+◌, ◌-◌, ◌<◌, ◌≤◌, ◌≢◌, length, take, drop, vec_len, slice_index_or, IfOk, IfErr, OnOk, OnErr, MatchOption};
 ghost use Rattle.std.specs.List.{insert, remove};
 ghost use Rattle.ft_body.specs.declared.blocks.Placed.{Placed};
 ghost use Rattle.ft_body.specs.Bytes.{written, resized};
-ghost use Rattle.ft_body.specs.Blocks.{placed_at, block_in, AreBlocks, IsPlace, FitsBack, step_back, Undoes, StillUndoes};
+ghost use Rattle.ft_body.specs.Blocks.{placed_at, block_in, AreBlocks, IsPlace, changed_at, last_moved_to, FitsBack, step_back, Undoes, StillUndoes};
 
 use crate::BLOCK_SIZE;
 use crate::block::Block;
@@ -119,10 +119,7 @@ pub(crate) fn write_at(
     requires inside { index < vec_len blocks.old }
     requires limit { start + length bytes.now ≤ BLOCK_SIZE }
     ensures after { OnOk result (blocks.new.items
-        ≡ slice_set blocks.old.items index record {
-          at = (placed_at blocks.old.items index).at;
-          block = written (placed_at blocks.old.items index).block start bytes.now;
-        }) }
+        ≡ changed_at blocks.old.items index (λ block. written block start bytes.now)) }
     ensures lost { StillUndoes steps.old.items steps.new.items blocks.old.items blocks.new.items }
 {
     steps.reserve(1)?;
@@ -142,10 +139,7 @@ pub(crate) fn cut_at(
     requires inside { index < vec_len blocks.old }
     requires limit { size ≤ BLOCK_SIZE }
     ensures after { OnOk result (blocks.new.items
-        ≡ slice_set blocks.old.items index record {
-          at = (placed_at blocks.old.items index).at;
-          block = resized (placed_at blocks.old.items index).block size;
-        }) }
+        ≡ changed_at blocks.old.items index (λ block. resized block size)) }
     ensures lost { StillUndoes steps.old.items steps.new.items blocks.old.items blocks.new.items }
 {
     steps.reserve(1)?;
@@ -213,8 +207,7 @@ fn move_last(blocks: &mut [Placed], index: usize)
 /// Moves the last block to an index.
 fn move_back(blocks: &mut [Placed], index: usize)
     requires { index < length blocks.old }
-    ensures { blocks.new ≡ take index blocks.old ++ drop (length blocks.old - 1) blocks.old
-        ++ take (length blocks.old - 1 - index) (drop index blocks.old) }
+    ensures { blocks.new ≡ last_moved_to blocks.old index }
 {
     blocks[index..].rotate_right(1);
 }

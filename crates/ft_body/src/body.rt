@@ -1,7 +1,7 @@
 // The body of a file, seen as a list of bytes.
 ghost use Rattle.std.specs.Prelude.{◌≡◌, ◌==◌, ◌≤◌, ◌+◌, ◌/◌, ℕ, false, [], length, slice_index, IsOk, IfOk, OnOk, OnErr};
 ghost use Rattle.ft_body.specs.declared.TheConstants.{LARGEST_SIZE};
-ghost use Rattle.ft_body.specs.Bytes.{bytes_at, fitting, written, resized};
+ghost use Rattle.ft_body.specs.Bytes.{bytes_at, fitting, after_write, resized};
 ghost use Rattle.ft_body.specs.Paging.{made_pages, is_made, KeepsPagesOutside, MakesNoPage};
 
 use crate::blocks::Placed;
@@ -89,8 +89,7 @@ impl Body {
         requires { offset ≤ LARGEST_SIZE }
         ensures taken { IfOk result
             (λ done. done.0 ≡ length (fitting LARGEST_SIZE bytes.now offset)) }
-        ensures after { OnOk result (self.new
-            ≡ written self.old offset (fitting LARGEST_SIZE bytes.now offset)) }
+        ensures after { OnOk result (self.new ≡ after_write self.old offset bytes.now) }
         ensures undo { IfOk result
             (λ done. done.1 ≡ record { before = self.old; after = self.new }) }
         ensures err { OnErr result (self.new ≡ self.old) }

@@ -1,7 +1,7 @@
 // The pages of a block: how they are read, written, cut, and put back.
-ghost use Rattle.std.specs.Prelude.{◌≡◌, ℕ, List, [], ◌+◌, ◌-◌, ◌*◌, ◌/◌, ◌<◌, ◌≤◌, ◌++◌, length, replicate, take, drop, vec_len, slice_index, IsOk, IfOk, OnOk, OnErr};
+ghost use Rattle.std.specs.Prelude.{◌≡◌, ℕ, List, [], ◌+◌, ◌-◌, ◌*◌, ◌/◌, ◌<◌, ◌≤◌, ◌++◌, length, replicate, take, drop, vec_len, IsOk, IfOk, OnOk, OnErr};
 ghost use Prim.Native.Nat.{max};
-ghost use Rattle.ft_body.specs.Paging.{page_count as count_of, byte_in, bytes_in, ArePages, IsPaged, IsWritten, IsFront, IsFrontEnd};
+ghost use Rattle.ft_body.specs.Paging.{page_count as count_of, byte_in, bytes_in, ArePages, IsPaged, AppendsBytes, IsWritten, IsFront, IsFrontEnd};
 ghost use Rattle.ft_body.specs.Bytes.{resized};
 ghost use Rattle.ft_body.specs.PutBack.{PutsBack, PutPartsBack};
 
@@ -64,9 +64,8 @@ pub(crate) fn read(
     requires limit { start + count ≤ BLOCK_SIZE }
     requires room { count_of (start + count) ≤ length pages.now }
     requires pages { ArePages pages.now }
-    ensures { OnOk result ((bytes : List ℕ) × (read.new.items ≡ read.old.items ++ bytes)
-        × (length bytes ≡ count)
-        × ((k : ℕ) → k < count → slice_index bytes k ≡ byte_in pages.now (start + k))) }
+    ensures { OnOk result
+        (AppendsBytes (byte_in pages.now) start count read.old.items read.new.items) }
 {
     let before = read.len();
     let end = start + count;

@@ -1,6 +1,6 @@
 // The bytes of a body in its blocks: how they are read, written, cut and counted.
-ghost use Rattle.std.specs.Prelude.{◌≡◌, ℕ, [], ◌+◌, ◌-◌, ◌*◌, ◌<◌, ◌≤◌, ◌≢◌, ◌++◌, length, vec_len, slice_index, IsOk, IfOk, OnOk, OnErr};
-ghost use Rattle.ft_body.specs.Blocks.{placed_at, block_in, byte_of, bytes_of, AreBlocks, IsBlocked, IsReplaced, Undoes, StillUndoes};
+ghost use Rattle.std.specs.Prelude.{◌≡◌, ℕ, [], ◌+◌, ◌-◌, ◌*◌, ◌<◌, ◌≤◌, ◌++◌, length, vec_len, slice_index, IsOk, IfOk, OnOk, OnErr};
+ghost use Rattle.ft_body.specs.Blocks.{placed_at, placed_in, block_in, byte_of, bytes_of, AreBlocks, IsBlocked, IsReplaced, IsWrittenIn, IsCutIn, KeepsOthers, Undoes, StillUndoes};
 ghost use Rattle.ft_body.specs.Bytes.{bytes_at, resized};
 ghost use Rattle.ft_body.specs.Paging.{IsWritten, IsFront, made_pages};
 
@@ -125,10 +125,8 @@ fn write_block(
     requires blocks { AreBlocks 0 blocks.old.items }
     ensures blocks { OnOk result (AreBlocks 0 blocks.new.items) }
     ensures there { OnOk result
-        (IsWritten (slice_index (block_in blocks.old.items at))
-        (slice_index (block_in blocks.new.items at)) start bytes.now) }
-    ensures others { OnOk result ((n : ℕ) → n ≢ at
-        → block_in blocks.new.items n ≡ block_in blocks.old.items n) }
+        (IsWrittenIn (placed_in blocks.old.items at) blocks.new.items start bytes.now) }
+    ensures others { OnOk result (KeepsOthers blocks.old.items blocks.new.items at) }
     ensures lost { StillUndoes steps.old.items steps.new.items blocks.old.items blocks.new.items }
 {
     match index_of(blocks, at) {
@@ -159,11 +157,9 @@ fn write_found(
     requires blocks { AreBlocks 0 blocks.old.items }
     ensures blocks { OnOk result (AreBlocks 0 blocks.new.items) }
     ensures there { OnOk result
-        (IsWritten (slice_index (placed_at blocks.old.items index).block)
-        (slice_index (block_in blocks.new.items (placed_at blocks.old.items index).at)) start
-        bytes.now) }
-    ensures others { OnOk result ((n : ℕ) → n ≢ (placed_at blocks.old.items index).at
-        → block_in blocks.new.items n ≡ block_in blocks.old.items n) }
+        (IsWrittenIn (placed_at blocks.old.items index) blocks.new.items start bytes.now) }
+    ensures others { OnOk result
+        (KeepsOthers blocks.old.items blocks.new.items (placed_at blocks.old.items index).at) }
     ensures lost { StillUndoes steps.old.items steps.new.items blocks.old.items blocks.new.items }
 {
     let size = blocks[index].block.len();
@@ -189,11 +185,9 @@ fn cut_found(
     requires inside { index < vec_len blocks.old }
     requires blocks { AreBlocks 0 blocks.old.items }
     ensures blocks { OnOk result (AreBlocks 0 blocks.new.items) }
-    ensures there { OnOk result
-        (IsFront (slice_index (placed_at blocks.old.items index).block)
-        (slice_index (block_in blocks.new.items (placed_at blocks.old.items index).at)) size) }
-    ensures others { OnOk result ((n : ℕ) → n ≢ (placed_at blocks.old.items index).at
-        → block_in blocks.new.items n ≡ block_in blocks.old.items n) }
+    ensures there { OnOk result (IsCutIn (placed_at blocks.old.items index) blocks.new.items size) }
+    ensures others { OnOk result
+        (KeepsOthers blocks.old.items blocks.new.items (placed_at blocks.old.items index).at) }
     ensures lost { StillUndoes steps.old.items steps.new.items blocks.old.items blocks.new.items }
 {
     let block = &blocks[index].block;

@@ -4,7 +4,7 @@ ghost use Rattle.ft_path.specs.FilePath.{parts_of};
 ghost use Rattle.ft_posix.specs.Outcomes.{from_parts, from_judged};
 ghost use Rattle.ft_posix.specs.Attributes.{mode_fault, time_fault, changed, change_dir, change_file, change_spot, chmod_spot, chown_spot, chown_link, lchown_spot, fchmod_open, fchown_open, set_time, time_spot, utime_spot, lutime_spot, futime_open};
 ghost use Rattle.ft_posix.specs.Descriptors.{with_open, any_open};
-ghost use Rattle.ft_calls.specs.Drafts.{Plans};
+ghost use Rattle.ft_calls.specs.Drafts.{Plans, IsSameDraft};
 ghost use Rattle.ft_calls.specs.Changes.{made, done_unless};
 
 use crate::draft::Draft;
@@ -54,17 +54,18 @@ impl Change {
     }
 }
 
-impl<'t, 'c> Draft<'t, 'c> {
+impl<'a, 'b, 't, 'c> Draft<'a, 'b, 't, 'c> {
     /// Plans to set the mode of a directory or a file.
     #[inline(never)]
     pub(crate) fn chmod(&mut self, mode: u16, path: &FilePath) -> Result<PlannedReply, CallError>
-        requires { self.old.edits ≡ [] }
-        ensures { Plans self.old
+        requires { self.old.edits.now ≡ [] }
+        ensures plans { Plans self.old
             (from_judged (mode_fault (Some mode)) true (parts_of path.now) (chmod_spot mode))
             self.new result }
+        ensures same { IsSameDraft self.old self.new }
     {
         let fault = mode_fault(Some(mode));
-        let spot = find_spot(self.alloc, &mut self.look, true, path, fault)?;
+        let spot = find_spot(self.alloc, self.look, true, path, fault)?;
         let change = Change::Mode(mode);
         self.change_spot(change, Some(Errno::ELOOP), spot)
     }
@@ -72,17 +73,19 @@ impl<'t, 'c> Draft<'t, 'c> {
     /// Plans to set the mode of a descriptor's file.
     #[inline(never)]
     pub(crate) fn fchmod(&mut self, fd: u64, mode: u16) -> Result<PlannedReply, CallError>
-        requires { self.old.edits ≡ [] }
-        ensures { Plans self.old (with_open fd any_open (fchmod_open mode)) self.new result }
+        requires { self.old.edits.now ≡ [] }
+        ensures plans { Plans self.old (with_open fd any_open (fchmod_open mode)) self.new result }
+        ensures same { IsSameDraft self.old self.new }
     {
-        let description = open_for(&mut self.look, fd, Purpose::Any)?;
+        let description = open_for(self.look, fd, Purpose::Any)?;
         self.fchmod_open(mode, description)
     }
 
     /// Plans to set the mode of a description's file.
     fn fchmod_open(&mut self, mode: u16, description: OpenFile) -> Result<PlannedReply, CallError>
-        requires { self.old.edits ≡ [] }
-        ensures { Plans self.old (fchmod_open mode description) self.new result }
+        requires { self.old.edits.now ≡ [] }
+        ensures plans { Plans self.old (fchmod_open mode description) self.new result }
+        ensures same { IsSameDraft self.old self.new }
     {
         if let Some(errno) = mode_fault(Some(mode)) {
             return Err(CallError::Errno(errno));
@@ -98,11 +101,13 @@ impl<'t, 'c> Draft<'t, 'c> {
         group: Option<u32>,
         path: &FilePath,
     ) -> Result<PlannedReply, CallError>
-        requires { self.old.edits ≡ [] }
-        ensures { Plans self.old (from_parts true (parts_of path.now) (chown_spot owner group))
+        requires { self.old.edits.now ≡ [] }
+        ensures plans { Plans self.old
+            (from_parts true (parts_of path.now) (chown_spot owner group))
             self.new result }
+        ensures same { IsSameDraft self.old self.new }
     {
-        let spot = find_spot(self.alloc, &mut self.look, true, path, None)?;
+        let spot = find_spot(self.alloc, self.look, true, path, None)?;
         let change = Change::Owners { owner, group };
         self.change_spot(change, Some(Errno::ELOOP), spot)
     }
@@ -116,11 +121,13 @@ impl<'t, 'c> Draft<'t, 'c> {
         group: Option<u32>,
         path: &FilePath,
     ) -> Result<PlannedReply, CallError>
-        requires { self.old.edits ≡ [] }
-        ensures { Plans self.old (from_parts false (parts_of path.now) (lchown_spot owner group))
+        requires { self.old.edits.now ≡ [] }
+        ensures plans { Plans self.old
+            (from_parts false (parts_of path.now) (lchown_spot owner group))
             self.new result }
+        ensures same { IsSameDraft self.old self.new }
     {
-        let spot = find_spot(self.alloc, &mut self.look, false, path, None)?;
+        let spot = find_spot(self.alloc, self.look, false, path, None)?;
         let change = Change::Owners { owner, group };
         self.change_spot(change, link_fault(owner, group), spot)
     }
@@ -133,10 +140,12 @@ impl<'t, 'c> Draft<'t, 'c> {
         owner: Option<u32>,
         group: Option<u32>,
     ) -> Result<PlannedReply, CallError>
-        requires { self.old.edits ≡ [] }
-        ensures { Plans self.old (with_open fd any_open (fchown_open owner group)) self.new result }
+        requires { self.old.edits.now ≡ [] }
+        ensures plans { Plans self.old (with_open fd any_open (fchown_open owner group))
+            self.new result }
+        ensures same { IsSameDraft self.old self.new }
     {
-        let description = open_for(&mut self.look, fd, Purpose::Any)?;
+        let description = open_for(self.look, fd, Purpose::Any)?;
         let change = Change::Owners { owner, group };
         self.change_file(change, description.file)
     }
@@ -149,9 +158,10 @@ impl<'t, 'c> Draft<'t, 'c> {
         link_fault: Option<Errno>,
         spot: PathEnd,
     ) -> Result<PlannedReply, CallError>
-        requires { self.old.edits ≡ [] }
-        ensures { Plans self.old (change_spot (made change) (done_unless link_fault) spot)
+        requires { self.old.edits.now ≡ [] }
+        ensures plans { Plans self.old (change_spot (made change) (done_unless link_fault) spot)
             self.new result }
+        ensures same { IsSameDraft self.old self.new }
     {
         match spot {
             PathEnd::Named { node: None, .. } => Err(CallError::Errno(Errno::ENOENT)),
@@ -176,8 +186,9 @@ impl<'t, 'c> Draft<'t, 'c> {
 
     /// Plans to change the attributes of a directory.
     fn change_dir(&mut self, change: Change, dir: u64) -> Result<PlannedReply, CallError>
-        requires { self.old.edits ≡ [] }
-        ensures { Plans self.old (change_dir (made change) dir) self.new result }
+        requires { self.old.edits.now ≡ [] }
+        ensures plans { Plans self.old (change_dir (made change) dir) self.new result }
+        ensures same { IsSameDraft self.old self.new }
     {
         let was = self.look.dir_attributes(dir)?;
         let to = Rare::new(self.alloc, change.changed(Kind::Dir, was))?;
@@ -187,8 +198,9 @@ impl<'t, 'c> Draft<'t, 'c> {
 
     /// Plans to change the attributes of a file.
     fn change_file(&mut self, change: Change, file: u64) -> Result<PlannedReply, CallError>
-        requires { self.old.edits ≡ [] }
-        ensures { Plans self.old (change_file (made change) file) self.new result }
+        requires { self.old.edits.now ≡ [] }
+        ensures plans { Plans self.old (change_file (made change) file) self.new result }
+        ensures same { IsSameDraft self.old self.new }
     {
         let was = self.look.file_attributes(file)?;
         let to = Rare::new(self.alloc, change.changed(Kind::File, was))?;
@@ -206,12 +218,13 @@ impl<'t, 'c> Draft<'t, 'c> {
         time: Timestamp,
         path: &FilePath,
     ) -> Result<PlannedReply, CallError>
-        requires { self.old.edits ≡ [] }
-        ensures { Plans self.old
+        requires { self.old.edits.now ≡ [] }
+        ensures plans { Plans self.old
             (from_judged (time_fault time) true (parts_of path.now) (utime_spot time))
             self.new result }
+        ensures same { IsSameDraft self.old self.new }
     {
-        let spot = find_spot(self.alloc, &mut self.look, true, path, time_fault(time))?;
+        let spot = find_spot(self.alloc, self.look, true, path, time_fault(time))?;
         self.time_spot(Errno::ELOOP, time, spot)
     }
 
@@ -222,22 +235,24 @@ impl<'t, 'c> Draft<'t, 'c> {
         time: Timestamp,
         path: &FilePath,
     ) -> Result<PlannedReply, CallError>
-        requires { self.old.edits ≡ [] }
-        ensures { Plans self.old
+        requires { self.old.edits.now ≡ [] }
+        ensures plans { Plans self.old
             (from_judged (time_fault time) false (parts_of path.now) (lutime_spot time))
             self.new result }
+        ensures same { IsSameDraft self.old self.new }
     {
-        let spot = find_spot(self.alloc, &mut self.look, false, path, time_fault(time))?;
+        let spot = find_spot(self.alloc, self.look, false, path, time_fault(time))?;
         self.time_spot(Errno::EINVAL, time, spot)
     }
 
     /// Plans to set the time of the bytes of a descriptor's file.
     #[inline(never)]
     pub(crate) fn futime(&mut self, fd: u64, time: Timestamp) -> Result<PlannedReply, CallError>
-        requires { self.old.edits ≡ [] }
-        ensures { Plans self.old (with_open fd any_open (futime_open time)) self.new result }
+        requires { self.old.edits.now ≡ [] }
+        ensures plans { Plans self.old (with_open fd any_open (futime_open time)) self.new result }
+        ensures same { IsSameDraft self.old self.new }
     {
-        let description = open_for(&mut self.look, fd, Purpose::Any)?;
+        let description = open_for(self.look, fd, Purpose::Any)?;
         self.futime_open(time, description)
     }
 
@@ -247,8 +262,9 @@ impl<'t, 'c> Draft<'t, 'c> {
         time: Timestamp,
         description: OpenFile,
     ) -> Result<PlannedReply, CallError>
-        requires { self.old.edits ≡ [] }
-        ensures { Plans self.old (futime_open time description) self.new result }
+        requires { self.old.edits.now ≡ [] }
+        ensures plans { Plans self.old (futime_open time description) self.new result }
+        ensures same { IsSameDraft self.old self.new }
     {
         if let Some(errno) = time_fault(time) {
             return Err(CallError::Errno(errno));
@@ -264,8 +280,9 @@ impl<'t, 'c> Draft<'t, 'c> {
         time: Timestamp,
         spot: PathEnd,
     ) -> Result<PlannedReply, CallError>
-        requires { self.old.edits ≡ [] }
-        ensures { Plans self.old (time_spot link_fault time spot) self.new result }
+        requires { self.old.edits.now ≡ [] }
+        ensures plans { Plans self.old (time_spot link_fault time spot) self.new result }
+        ensures same { IsSameDraft self.old self.new }
     {
         match spot {
             PathEnd::Named { node: None, .. } => Err(CallError::Errno(Errno::ENOENT)),
@@ -283,8 +300,9 @@ impl<'t, 'c> Draft<'t, 'c> {
 
     /// Plans to set the time of a file.
     fn set_time(&mut self, time: Timestamp, file: u64) -> Result<PlannedReply, CallError>
-        requires { self.old.edits ≡ [] }
-        ensures { Plans self.old (set_time time file) self.new result }
+        requires { self.old.edits.now ≡ [] }
+        ensures plans { Plans self.old (set_time time file) self.new result }
+        ensures same { IsSameDraft self.old self.new }
     {
         self.look.size(file)?;
         self.edits.push(Edit::Time {

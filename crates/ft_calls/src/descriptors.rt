@@ -7,7 +7,7 @@ ghost use Rattle.ft_cells.specs.Looks.{Answer};
 ghost use Rattle.ft_posix.specs.Looking.{Observes};
 ghost use Rattle.ft_posix.specs.Computes.{Computes};
 ghost use Rattle.ft_posix.specs.Intended.{intended};
-ghost use Rattle.ft_calls.specs.Drafts.{Plans};
+ghost use Rattle.ft_calls.specs.Drafts.{Plans, IsSameDraft};
 
 use crate::draft::Draft;
 use crate::files::file_info;
@@ -19,18 +19,19 @@ use ft_path::Errno;
 use ft_posix::{CallError, Edit, PlannedReply, Whence};
 use ft_tree::{Form, OpenFile, TreeLimits};
 
-impl<'t, 'c> Draft<'t, 'c> {
+impl<'a, 'b, 't, 'c> Draft<'a, 'b, 't, 'c> {
     /// Plans to write at the offset, or with append at the end of the file. The offset becomes the
     /// end of the written bytes.
     #[inline(never)]
     pub(crate) fn write(&mut self, fd: u64, bytes: &'c [u8]) -> Result<PlannedReply, CallError>
-        requires { self.old.edits ≡ [] }
-        ensures { Plans self.old
-            (with_open fd is_writable (write_open self.old.look.cells.limits fd bytes.now))
+        requires { self.old.edits.now ≡ [] }
+        ensures plans { Plans self.old
+            (with_open fd is_writable (write_open self.old.look.now.cells.limits fd bytes.now))
             self.new result }
+        ensures same { IsSameDraft self.old self.new }
     {
         let limits = self.look.limits();
-        let description = open_for(&mut self.look, fd, Purpose::Writing)?;
+        let description = open_for(self.look, fd, Purpose::Writing)?;
         self.write_open(limits, fd, bytes, description)
     }
 
@@ -42,14 +43,16 @@ impl<'t, 'c> Draft<'t, 'c> {
         bytes: &'c [u8],
         description: OpenFile,
     ) -> Result<PlannedReply, CallError>
-        requires none { self.old.edits ≡ [] }
+        requires none { self.old.edits.now ≡ [] }
         requires size { limits.file_size ≤ LARGEST_SIZE }
-        ensures { Plans self.old (write_open limits fd bytes.now description) self.new result }
+        ensures plans { Plans self.old (write_open limits fd bytes.now description)
+            self.new result }
+        ensures same { IsSameDraft self.old self.new }
     {
         if bytes.is_empty() {
             return Ok(PlannedReply::Number(0));
         }
-        let place = write_place(&mut self.look, description)?;
+        let place = write_place(self.look, description)?;
         self.write_at(limits, fd, description, bytes, place)
     }
 
@@ -62,9 +65,11 @@ impl<'t, 'c> Draft<'t, 'c> {
         bytes: &'c [u8],
         at: u64,
     ) -> Result<PlannedReply, CallError>
-        requires none { self.old.edits ≡ [] }
+        requires none { self.old.edits.now ≡ [] }
         requires size { limits.file_size ≤ LARGEST_SIZE }
-        ensures { Plans self.old (write_at limits fd description bytes.now at) self.new result }
+        ensures plans { Plans self.old (write_at limits fd description bytes.now at)
+            self.new result }
+        ensures same { IsSameDraft self.old self.new }
     {
         if at >= limits.file_size {
             return Err(CallError::Errno(Errno::EFBIG));
@@ -84,17 +89,19 @@ impl<'t, 'c> Draft<'t, 'c> {
     /// Plans to close a descriptor.
     #[inline(never)]
     pub(crate) fn close(&mut self, fd: u64) -> Result<PlannedReply, CallError>
-        requires { self.old.edits ≡ [] }
-        ensures { Plans self.old (with_open fd any_open (close_open fd)) self.new result }
+        requires { self.old.edits.now ≡ [] }
+        ensures plans { Plans self.old (with_open fd any_open (close_open fd)) self.new result }
+        ensures same { IsSameDraft self.old self.new }
     {
-        let description = open_for(&mut self.look, fd, Purpose::Any)?;
+        let description = open_for(self.look, fd, Purpose::Any)?;
         self.close_open(fd, description)
     }
 
     /// Plans to close an open descriptor. Looks at whether entries name its file.
     fn close_open(&mut self, fd: u64, description: OpenFile) -> Result<PlannedReply, CallError>
-        requires { self.old.edits ≡ [] }
-        ensures { Plans self.old (close_open fd description) self.new result }
+        requires { self.old.edits.now ≡ [] }
+        ensures plans { Plans self.old (close_open fd description) self.new result }
+        ensures same { IsSameDraft self.old self.new }
     {
         self.look.links(description.file)?;
         self.edits.push(Edit::Open { fd, to: None })?;
@@ -104,10 +111,12 @@ impl<'t, 'c> Draft<'t, 'c> {
     /// Plans to read at the offset, which moves by the count of the bytes.
     #[inline(never)]
     pub(crate) fn read(&mut self, fd: u64, len: u64) -> Result<PlannedReply, CallError>
-        requires { self.old.edits ≡ [] }
-        ensures { Plans self.old (with_open fd is_readable (read_open fd len)) self.new result }
+        requires { self.old.edits.now ≡ [] }
+        ensures plans { Plans self.old (with_open fd is_readable (read_open fd len))
+            self.new result }
+        ensures same { IsSameDraft self.old self.new }
     {
-        let description = open_for(&mut self.look, fd, Purpose::Reading)?;
+        let description = open_for(self.look, fd, Purpose::Reading)?;
         self.read_open(fd, len, description)
     }
 
@@ -118,8 +127,9 @@ impl<'t, 'c> Draft<'t, 'c> {
         len: u64,
         description: OpenFile,
     ) -> Result<PlannedReply, CallError>
-        requires { self.old.edits ≡ [] }
-        ensures { Plans self.old (read_open fd len description) self.new result }
+        requires { self.old.edits.now ≡ [] }
+        ensures plans { Plans self.old (read_open fd len description) self.new result }
+        ensures same { IsSameDraft self.old self.new }
     {
         let size = self.look.size(description.file)?;
         let read = size.saturating_sub(description.offset).min(len);
@@ -143,13 +153,14 @@ impl<'t, 'c> Draft<'t, 'c> {
         offset: i64,
         bytes: &'c [u8],
     ) -> Result<PlannedReply, CallError>
-        requires { self.old.edits ≡ [] }
-        ensures { Plans self.old
-            (with_open fd is_writable (pwrite_open self.old.look.cells.limits offset bytes.now))
+        requires { self.old.edits.now ≡ [] }
+        ensures plans { Plans self.old
+            (with_open fd is_writable (pwrite_open self.old.look.now.cells.limits offset bytes.now))
             self.new result }
+        ensures same { IsSameDraft self.old self.new }
     {
         let limits = self.look.limits();
-        let description = open_for(&mut self.look, fd, Purpose::Writing)?;
+        let description = open_for(self.look, fd, Purpose::Writing)?;
         self.pwrite_open(limits, offset, bytes, description)
     }
 
@@ -161,9 +172,11 @@ impl<'t, 'c> Draft<'t, 'c> {
         bytes: &'c [u8],
         description: OpenFile,
     ) -> Result<PlannedReply, CallError>
-        requires none { self.old.edits ≡ [] }
+        requires none { self.old.edits.now ≡ [] }
         requires size { limits.file_size ≤ LARGEST_SIZE }
-        ensures { Plans self.old (pwrite_open limits offset bytes.now description) self.new result }
+        ensures plans { Plans self.old (pwrite_open limits offset bytes.now description)
+            self.new result }
+        ensures same { IsSameDraft self.old self.new }
     {
         let at = not_negative(offset)?;
         self.pwrite_at(limits, description, bytes, at)
@@ -177,9 +190,10 @@ impl<'t, 'c> Draft<'t, 'c> {
         bytes: &'c [u8],
         at: u64,
     ) -> Result<PlannedReply, CallError>
-        requires none { self.old.edits ≡ [] }
+        requires none { self.old.edits.now ≡ [] }
         requires size { limits.file_size ≤ LARGEST_SIZE }
-        ensures { Plans self.old (pwrite_at limits description bytes.now at) self.new result }
+        ensures plans { Plans self.old (pwrite_at limits description bytes.now at) self.new result }
+        ensures same { IsSameDraft self.old self.new }
     {
         if bytes.is_empty() {
             return Ok(PlannedReply::Number(0));
@@ -203,11 +217,12 @@ impl<'t, 'c> Draft<'t, 'c> {
         whence: Whence,
         offset: i64,
     ) -> Result<PlannedReply, CallError>
-        requires { self.old.edits ≡ [] }
-        ensures { Plans self.old (with_open fd any_open (seek_open fd whence offset))
+        requires { self.old.edits.now ≡ [] }
+        ensures plans { Plans self.old (with_open fd any_open (seek_open fd whence offset))
             self.new result }
+        ensures same { IsSameDraft self.old self.new }
     {
-        let description = open_for(&mut self.look, fd, Purpose::Any)?;
+        let description = open_for(self.look, fd, Purpose::Any)?;
         self.seek_open(fd, whence, offset, description)
     }
 
@@ -219,10 +234,11 @@ impl<'t, 'c> Draft<'t, 'c> {
         offset: i64,
         description: OpenFile,
     ) -> Result<PlannedReply, CallError>
-        requires { self.old.edits ≡ [] }
-        ensures { Plans self.old (seek_open fd whence offset description) self.new result }
+        requires { self.old.edits.now ≡ [] }
+        ensures plans { Plans self.old (seek_open fd whence offset description) self.new result }
+        ensures same { IsSameDraft self.old self.new }
     {
-        let from = seek_from(&mut self.look, whence, description)?;
+        let from = seek_from(self.look, whence, description)?;
         self.seek_to(fd, description, from, offset)
     }
 
@@ -234,9 +250,10 @@ impl<'t, 'c> Draft<'t, 'c> {
         from: u64,
         offset: i64,
     ) -> Result<PlannedReply, CallError>
-        requires { self.old.edits ≡ [] }
-        ensures { Plans self.old (Answer (sought fd description (moved from offset)))
+        requires { self.old.edits.now ≡ [] }
+        ensures plans { Plans self.old (Answer (sought fd description (moved from offset)))
             self.new result }
+        ensures same { IsSameDraft self.old self.new }
     {
         let at = seek_place(from, offset)?;
         self.edits.push(Edit::Open {
@@ -249,13 +266,14 @@ impl<'t, 'c> Draft<'t, 'c> {
     /// Plans to cut a descriptor's file to a length, or to add zeros up to it.
     #[inline(never)]
     pub(crate) fn ftruncate(&mut self, fd: u64, length: i64) -> Result<PlannedReply, CallError>
-        requires { self.old.edits ≡ [] }
-        ensures { Plans self.old
-            (with_open fd is_writable (ftruncate_open self.old.look.cells.limits length))
+        requires { self.old.edits.now ≡ [] }
+        ensures plans { Plans self.old
+            (with_open fd is_writable (ftruncate_open self.old.look.now.cells.limits length))
             self.new result }
+        ensures same { IsSameDraft self.old self.new }
     {
         let limits = self.look.limits();
-        let description = open_for(&mut self.look, fd, Purpose::Writing)?;
+        let description = open_for(self.look, fd, Purpose::Writing)?;
         self.ftruncate_open(limits, length, description)
     }
 
@@ -266,9 +284,10 @@ impl<'t, 'c> Draft<'t, 'c> {
         length: i64,
         description: OpenFile,
     ) -> Result<PlannedReply, CallError>
-        requires none { self.old.edits ≡ [] }
+        requires none { self.old.edits.now ≡ [] }
         requires size { limits.file_size ≤ LARGEST_SIZE }
-        ensures { Plans self.old (ftruncate_open limits length description) self.new result }
+        ensures plans { Plans self.old (ftruncate_open limits length description) self.new result }
+        ensures same { IsSameDraft self.old self.new }
     {
         let size = to_size(limits, length)?;
         self.cut_file(description.file, size)

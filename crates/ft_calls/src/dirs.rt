@@ -1,16 +1,15 @@
 // The plans of the calls on directories.
-ghost use Rattle.std.specs.Prelude.{true, false, ◌≡◌, [], ◌∷◌, ◌++◌, Ok, Some, None, OnOk};
+ghost use Rattle.std.specs.Prelude.{true, false, ◌≡◌, [], ◌∷◌, Ok, Some, None};
 ghost use Rattle.ft_path.specs.FilePath.{parts_of};
 ghost use Rattle.ft_cells.specs.declared.node.Node.TheVariants.{Dir as DirNode};
 ghost use Rattle.ft_cells.specs.declared.node.PathEnd.TheVariants.{Named};
 ghost use Rattle.ft_cells.specs.declared.cell.Cell.TheVariants.{Parent, DirAttributes};
-ghost use Rattle.ft_cells.specs.Cells.{Cells};
 ghost use Rattle.ft_posix.specs.Outcomes.{sets, from_parts, from_judged};
 ghost use Rattle.ft_posix.specs.Attributes.{mode_fault};
 ghost use Rattle.ft_posix.specs.Dirs.{make_dir, remove_parts, remove_dir, last_fault, list_dir};
-ghost use Rattle.ft_posix.specs.Computes.{writes_of, Computes};
+ghost use Rattle.ft_posix.specs.Computes.{Computes};
 ghost use Rattle.ft_posix.specs.Intended.{intended};
-ghost use Rattle.ft_calls.specs.Drafts.{Plans};
+ghost use Rattle.ft_calls.specs.Drafts.{Plans, IsSameDraft, AddsWrites};
 
 use crate::draft::Draft;
 use crate::judging::{find_spot, mode_fault};
@@ -22,7 +21,7 @@ use ft_posix::{CallError, Edit, Edits, PlannedReply};
 use ft_tree::{Entry, Node, PathEnd, Rare};
 use std::alloc::Global;
 
-impl<'t, 'c> Draft<'t, 'c> {
+impl<'a, 'b, 't, 'c> Draft<'a, 'b, 't, 'c> {
     /// Plans to make a directory with the given mode, which gets the stamp as its number.
     #[inline(never)]
     pub(crate) fn mkdir(
@@ -30,19 +29,21 @@ impl<'t, 'c> Draft<'t, 'c> {
         mode: Option<u16>,
         path: &FilePath,
     ) -> Result<PlannedReply, CallError>
-        requires { self.old.edits ≡ [] }
-        ensures { Plans self.old
+        requires { self.old.edits.now ≡ [] }
+        ensures plans { Plans self.old
             (from_judged (mode_fault mode) false (parts_of path.now) (make_dir self.old.stamp mode))
             self.new result }
+        ensures same { IsSameDraft self.old self.new }
     {
-        let spot = find_spot(self.alloc, &mut self.look, false, path, mode_fault(mode))?;
+        let spot = find_spot(self.alloc, self.look, false, path, mode_fault(mode))?;
         self.make_dir(mode, spot)
     }
 
     /// Plans to make a directory at the end of a walk.
     fn make_dir(&mut self, mode: Option<u16>, spot: PathEnd) -> Result<PlannedReply, CallError>
-        requires { self.old.edits ≡ [] }
-        ensures { Plans self.old (make_dir self.old.stamp mode spot) self.new result }
+        requires { self.old.edits.now ≡ [] }
+        ensures plans { Plans self.old (make_dir self.old.stamp mode spot) self.new result }
+        ensures same { IsSameDraft self.old self.new }
     {
         let PathEnd::Named {
             entry,
@@ -60,15 +61,16 @@ impl<'t, 'c> Draft<'t, 'c> {
             entry,
             to: Some(Node::Dir(self.stamp)),
         })?;
-        set_dir_mode(self.alloc, &mut self.edits, self.stamp, mode)?;
+        set_dir_mode(self.alloc, self.edits, self.stamp, mode)?;
         Ok(PlannedReply::Done)
     }
 
     /// Plans to remove an empty directory.
     #[inline(never)]
     pub(crate) fn rmdir(&mut self, path: &FilePath) -> Result<PlannedReply, CallError>
-        requires { self.old.edits ≡ [] }
-        ensures { Plans self.old (remove_parts (parts_of path.now)) self.new result }
+        requires { self.old.edits.now ≡ [] }
+        ensures plans { Plans self.old (remove_parts (parts_of path.now)) self.new result }
+        ensures same { IsSameDraft self.old self.new }
     {
         let parts = text_parts(path)?;
         self.remove_parts(&parts)
@@ -76,8 +78,9 @@ impl<'t, 'c> Draft<'t, 'c> {
 
     /// Plans to remove the directory to which a path leads.
     fn remove_parts(&mut self, parts: &JudgedPath<'_>) -> Result<PlannedReply, CallError>
-        requires { self.old.edits ≡ [] }
-        ensures { Plans self.old (remove_parts (Ok parts.now)) self.new result }
+        requires { self.old.edits.now ≡ [] }
+        ensures plans { Plans self.old (remove_parts (Ok parts.now)) self.new result }
+        ensures same { IsSameDraft self.old self.new }
     {
         if let Some(errno) = last_fault(parts.last()) {
             return Err(CallError::Errno(errno));
@@ -88,8 +91,9 @@ impl<'t, 'c> Draft<'t, 'c> {
 
     /// Plans to remove the directory at the end of a walk.
     fn remove_dir(&mut self, spot: PathEnd) -> Result<PlannedReply, CallError>
-        requires { self.old.edits ≡ [] }
-        ensures { Plans self.old (remove_dir spot) self.new result }
+        requires { self.old.edits.now ≡ [] }
+        ensures plans { Plans self.old (remove_dir spot) self.new result }
+        ensures same { IsSameDraft self.old self.new }
     {
         let PathEnd::Named { entry, node, .. } = spot else {
             return Err(CallError::Errno(Errno::EBUSY));
@@ -103,14 +107,15 @@ impl<'t, 'c> Draft<'t, 'c> {
 
     /// Plans to remove a directory, unless it has an entry.
     fn remove_bare(&mut self, entry: Entry, number: u64) -> Result<PlannedReply, CallError>
-        requires { self.old.edits ≡ [] }
-        ensures { Plans self.old (remove_dir (Named entry (Some (DirNode number)) false))
+        requires { self.old.edits.now ≡ [] }
+        ensures plans { Plans self.old (remove_dir (Named entry (Some (DirNode number)) false))
             self.new result }
+        ensures same { IsSameDraft self.old self.new }
     {
         if !self.look.is_empty_dir(number)? {
             return Err(CallError::Errno(Errno::ENOTEMPTY));
         }
-        dir_gone(&mut self.edits, number)?;
+        dir_gone(self.edits, number)?;
         self.edits.push(Edit::Entry { entry, to: None })?;
         Ok(PlannedReply::Done)
     }
@@ -131,9 +136,8 @@ fn last_fault(last: LastName) -> Option<Errno>
 
 /// Adds the edits that remove a directory with its attributes.
 pub(crate) fn dir_gone(edits: &mut Edits<'_>, dir: u64) -> Result<(), Memory>
-    ensures { (cells : Cells)
-        → OnOk result (writes_of cells edits.new ≡ writes_of cells edits.old
-        ++ sets (DirAttributes dir) None ∷ sets (Parent dir) None ∷ []) }
+    ensures { AddsWrites edits.old edits.new result
+        (sets (DirAttributes dir) None ∷ sets (Parent dir) None ∷ []) }
 {
     edits.push(Edit::DirAttributes {
         dir,

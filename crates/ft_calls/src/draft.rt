@@ -5,9 +5,9 @@ use std::alloc::Global;
 
 /// A call that is being planned: its stamp, a look at the tree, and the edits so far.
 #[derive(Drop)]
-pub(crate) struct Draft<'t, 'c> {
+pub(crate) struct Draft<'a, 'b, 't, 'c> {
     pub(crate) alloc: Global,
     pub(crate) stamp: u64,
-    pub(crate) look: Look<'t>,
-    pub(crate) edits: Edits<'c>,
+    pub(crate) look: &'a mut Look<'t>,
+    pub(crate) edits: &'b mut Edits<'c>,
 }

@@ -9,7 +9,7 @@ ghost use Rattle.ft_posix.specs.Looking.{Observes};
 ghost use Rattle.ft_posix.specs.Files.{open_node, open_spot, open_fault, open_parts, cut_file, truncate_spot, truncate_parts, dir_info, attributes_at, file_info, stat_spot};
 ghost use Rattle.ft_posix.specs.Computes.{Computes};
 ghost use Rattle.ft_posix.specs.Intended.{intended};
-ghost use Rattle.ft_calls.specs.Drafts.{Plans};
+ghost use Rattle.ft_calls.specs.Drafts.{Plans, IsSameDraft};
 
 use crate::draft::Draft;
 use crate::judging::{find_spot, mode_fault};
@@ -22,7 +22,7 @@ use ft_posix::{CallError, Edit, OpenFlags, PlannedReply};
 use ft_tree::{Attributes, Entry, Form, HintedFile, Kind, Node, PathEnd};
 use std::alloc::Global;
 
-impl<'t, 'c> Draft<'t, 'c> {
+impl<'a, 'b, 't, 'c> Draft<'a, 'b, 't, 'c> {
     /// Plans to open a file, and to make it if that is requested. A new file and the descriptor get
     /// the stamp as their number.
     #[inline(never)]
@@ -31,19 +31,22 @@ impl<'t, 'c> Draft<'t, 'c> {
         path: &FilePath,
         flags: OpenFlags,
     ) -> Result<PlannedReply, CallError>
-        requires { self.old.edits ≡ [] }
-        ensures { Plans self.old (open_parts self.old.stamp flags (parts_of path.now))
+        requires { self.old.edits.now ≡ [] }
+        ensures plans { Plans self.old (open_parts self.old.stamp flags (parts_of path.now))
             self.new result }
+        ensures same { IsSameDraft self.old self.new }
     {
         let follow = !flags.is_exclusive();
-        let spot = find_spot(self.alloc, &mut self.look, follow, path, open_fault(flags))?;
+        let spot = find_spot(self.alloc, self.look, follow, path, open_fault(flags))?;
         self.open_spot(flags, spot)
     }
 
     /// Plans to open the file at the end of a walk.
     fn open_spot(&mut self, flags: OpenFlags, spot: PathEnd) -> Result<PlannedReply, CallError>
-        requires { self.old.edits ≡ [] }
-        ensures { Plans self.old (Answer (open_spot self.old.stamp flags spot)) self.new result }
+        requires { self.old.edits.now ≡ [] }
+        ensures plans { Plans self.old (Answer (open_spot self.old.stamp flags spot))
+            self.new result }
+        ensures same { IsSameDraft self.old self.new }
     {
         let PathEnd::Named { entry, node, slash } = spot else {
             if flags.is_exclusive() {
@@ -66,9 +69,11 @@ impl<'t, 'c> Draft<'t, 'c> {
         slash: bool,
         entry: Entry,
     ) -> Result<PlannedReply, CallError>
-        requires { self.old.edits ≡ [] }
-        ensures { Plans self.old (Answer (open_spot self.old.stamp flags (Named entry None slash)))
+        requires { self.old.edits.now ≡ [] }
+        ensures plans { Plans self.old
+            (Answer (open_spot self.old.stamp flags (Named entry None slash)))
             self.new result }
+        ensures same { IsSameDraft self.old self.new }
     {
         if !flags.create || slash {
             return Err(CallError::Errno(Errno::ENOENT));
@@ -89,14 +94,16 @@ impl<'t, 'c> Draft<'t, 'c> {
             entry,
             to: Some(Node::File(Form::Regular, self.stamp)),
         })?;
-        set_file_mode(self.alloc, &mut self.edits, self.stamp, flags.mode)?;
+        set_file_mode(self.alloc, self.edits, self.stamp, flags.mode)?;
         Ok(PlannedReply::Number(self.stamp))
     }
 
     /// Plans to open what an entry leads to.
     fn open_node(&mut self, flags: OpenFlags, node: Node) -> Result<PlannedReply, CallError>
-        requires { self.old.edits ≡ [] }
-        ensures { Plans self.old (Answer (open_node self.old.stamp flags node)) self.new result }
+        requires { self.old.edits.now ≡ [] }
+        ensures plans { Plans self.old (Answer (open_node self.old.stamp flags node))
+            self.new result }
+        ensures same { IsSameDraft self.old self.new }
     {
         let file = match node {
             Node::File(Form::Regular, file) => file,
@@ -124,9 +131,11 @@ impl<'t, 'c> Draft<'t, 'c> {
         length: i64,
         path: &FilePath,
     ) -> Result<PlannedReply, CallError>
-        requires { self.old.edits ≡ [] }
-        ensures { Plans self.old
-            (truncate_parts self.old.look.cells.limits length (parts_of path.now)) self.new result }
+        requires { self.old.edits.now ≡ [] }
+        ensures plans { Plans self.old
+            (truncate_parts self.old.look.now.cells.limits length (parts_of path.now))
+            self.new result }
+        ensures same { IsSameDraft self.old self.new }
     {
         let parts = text_parts(path)?;
         let size = to_size(self.look.limits(), length)?;
@@ -136,9 +145,10 @@ impl<'t, 'c> Draft<'t, 'c> {
     /// Plans to cut the file to which a path leads.
     fn truncate_to(&mut self, size: u64, parts: &JudgedPath<'_>) -> Result<PlannedReply, CallError>
         requires size { size ≤ LARGEST_SIZE }
-        requires none { self.old.edits ≡ [] }
-        ensures { Plans self.old (from_parts true (Ok parts.now) (truncate_spot size))
+        requires none { self.old.edits.now ≡ [] }
+        ensures plans { Plans self.old (from_parts true (Ok parts.now) (truncate_spot size))
             self.new result }
+        ensures same { IsSameDraft self.old self.new }
     {
         let spot = self.look.walk(self.alloc, true, parts)?;
         self.truncate_spot(size, spot)
@@ -147,8 +157,9 @@ impl<'t, 'c> Draft<'t, 'c> {
     /// Plans to cut the file at the end of a walk.
     fn truncate_spot(&mut self, size: u64, spot: PathEnd) -> Result<PlannedReply, CallError>
         requires size { size ≤ LARGEST_SIZE }
-        requires none { self.old.edits ≡ [] }
-        ensures { Plans self.old (truncate_spot size spot) self.new result }
+        requires none { self.old.edits.now ≡ [] }
+        ensures plans { Plans self.old (truncate_spot size spot) self.new result }
+        ensures same { IsSameDraft self.old self.new }
     {
         match spot {
             PathEnd::Named { node: None, .. } => Err(CallError::Errno(Errno::ENOENT)),
@@ -167,8 +178,9 @@ impl<'t, 'c> Draft<'t, 'c> {
     /// Plans to cut a file to a size, or to add zeros up to it.
     pub(crate) fn cut_file(&mut self, file: u64, size: u64) -> Result<PlannedReply, CallError>
         requires size { size ≤ LARGEST_SIZE }
-        requires none { self.old.edits ≡ [] }
-        ensures { Plans self.old (cut_file file size) self.new result }
+        requires none { self.old.edits.now ≡ [] }
+        ensures plans { Plans self.old (cut_file file size) self.new result }
+        ensures same { IsSameDraft self.old self.new }
     {
         self.look.size(file)?;
         self.edits.push(Edit::Resize {

@@ -1,14 +1,13 @@
 // The plans of link, unlink and rename.
-ghost use Rattle.std.specs.Prelude.{false, ◌≡◌, [], ◌++◌, Ok, OnOk};
+ghost use Rattle.std.specs.Prelude.{false, ◌≡◌, [], Ok, None, OnOk};
 ghost use Rattle.ft_path.specs.FilePath.{parts_of};
-ghost use Rattle.ft_cells.specs.declared.node.Node.TheVariants.{Dir as DirNode};
-ghost use Rattle.ft_cells.specs.Cells.{Cells, directory_count};
-ghost use Rattle.ft_cells.specs.Looks.{Answer};
+ghost use Rattle.ft_cells.specs.declared.node.PathEnd.TheVariants.{Named};
+ghost use Rattle.ft_cells.specs.Cells.{Cells};
 ghost use Rattle.ft_posix.specs.Outcomes.{from_parts};
 ghost use Rattle.ft_posix.specs.Links.{link_new, link_old, link_parts, unlink_spot, rename_fault, renamed, with_parent, unless_below, replace_file, replace_dir, rename_file, rename_dir, rename_old, rename_parts};
 ghost use Rattle.ft_posix.specs.declared.intent.PlannedReply.TheVariants.{Done};
-ghost use Rattle.ft_posix.specs.Computes.{writes_of, outcome_of};
-ghost use Rattle.ft_calls.specs.Drafts.{Plans};
+ghost use Rattle.ft_posix.specs.Computes.{outcome_of};
+ghost use Rattle.ft_calls.specs.Drafts.{Plans, IsSameDraft, directories_of, AddsWrites};
 
 use crate::dirs::dir_gone;
 use crate::draft::Draft;
@@ -18,13 +17,14 @@ use ft_path::{Errno, FilePath, JudgedPath, LastName};
 use ft_posix::{CallError, Edit, Edits, PlannedReply};
 use ft_tree::{Entry, Form, Node, PathEnd, TreeLimits};
 
-impl<'t, 'c> Draft<'t, 'c> {
+impl<'a, 'b, 't, 'c> Draft<'a, 'b, 't, 'c> {
     /// Plans to remove an entry of a file.
     #[inline(never)]
     pub(crate) fn unlink(&mut self, path: &FilePath) -> Result<PlannedReply, CallError>
-        requires { self.old.edits ≡ [] }
-        ensures { Plans self.old (from_parts false (parts_of path.now) unlink_spot)
+        requires { self.old.edits.now ≡ [] }
+        ensures plans { Plans self.old (from_parts false (parts_of path.now) unlink_spot)
             self.new result }
+        ensures same { IsSameDraft self.old self.new }
     {
         let parts = text_parts(path)?;
         let spot = self.look.walk(self.alloc, false, &parts)?;
@@ -33,8 +33,9 @@ impl<'t, 'c> Draft<'t, 'c> {
 
     /// Plans to remove the entry of a file at the end of a walk.
     fn unlink_spot(&mut self, spot: PathEnd) -> Result<PlannedReply, CallError>
-        requires { self.old.edits ≡ [] }
-        ensures { Plans self.old (unlink_spot spot) self.new result }
+        requires { self.old.edits.now ≡ [] }
+        ensures plans { Plans self.old (unlink_spot spot) self.new result }
+        ensures same { IsSameDraft self.old self.new }
     {
         let PathEnd::Named { entry, node, .. } = spot else {
             return Err(CallError::Errno(Errno::EPERM));
@@ -57,10 +58,11 @@ impl<'t, 'c> Draft<'t, 'c> {
     /// Plans to make another entry for a file.
     #[inline(never)]
     pub(crate) fn link(&mut self, old: &FilePath, new: &FilePath) -> Result<PlannedReply, CallError>
-        requires { self.old.edits ≡ [] }
-        ensures { Plans self.old
-            (link_parts self.old.look.cells.limits (parts_of old.now) (parts_of new.now))
+        requires { self.old.edits.now ≡ [] }
+        ensures plans { Plans self.old
+            (link_parts self.old.look.now.cells.limits (parts_of old.now) (parts_of new.now))
             self.new result }
+        ensures same { IsSameDraft self.old self.new }
     {
         let from = text_parts(old)?;
         let to = text_parts(new)?;
@@ -75,8 +77,10 @@ impl<'t, 'c> Draft<'t, 'c> {
         old: &JudgedPath<'_>,
         new: &JudgedPath<'_>,
     ) -> Result<PlannedReply, CallError>
-        requires { self.old.edits ≡ [] }
-        ensures { Plans self.old (link_parts limits (Ok old.now) (Ok new.now)) self.new result }
+        requires { self.old.edits.now ≡ [] }
+        ensures plans { Plans self.old (link_parts limits (Ok old.now) (Ok new.now))
+            self.new result }
+        ensures same { IsSameDraft self.old self.new }
     {
         let spot = self.look.walk(self.alloc, false, old)?;
         self.link_old(limits, new, spot)
@@ -89,8 +93,9 @@ impl<'t, 'c> Draft<'t, 'c> {
         new: &JudgedPath<'_>,
         spot: PathEnd,
     ) -> Result<PlannedReply, CallError>
-        requires { self.old.edits ≡ [] }
-        ensures { Plans self.old (link_old limits new.now spot) self.new result }
+        requires { self.old.edits.now ≡ [] }
+        ensures plans { Plans self.old (link_old limits new.now spot) self.new result }
+        ensures same { IsSameDraft self.old self.new }
     {
         match spot {
             PathEnd::Named { node: None, .. } => Err(CallError::Errno(Errno::ENOENT)),
@@ -110,9 +115,10 @@ impl<'t, 'c> Draft<'t, 'c> {
         file: u64,
         new: &JudgedPath<'_>,
     ) -> Result<PlannedReply, CallError>
-        requires { self.old.edits ≡ [] }
-        ensures { Plans self.old (from_parts false (Ok new.now) (link_new limits form file))
+        requires { self.old.edits.now ≡ [] }
+        ensures plans { Plans self.old (from_parts false (Ok new.now) (link_new limits form file))
             self.new result }
+        ensures same { IsSameDraft self.old self.new }
     {
         let spot = self.look.walk(self.alloc, false, new)?;
         self.link_new(limits, form, file, spot)
@@ -126,8 +132,9 @@ impl<'t, 'c> Draft<'t, 'c> {
         file: u64,
         spot: PathEnd,
     ) -> Result<PlannedReply, CallError>
-        requires { self.old.edits ≡ [] }
-        ensures { Plans self.old (link_new limits form file spot) self.new result }
+        requires { self.old.edits.now ≡ [] }
+        ensures plans { Plans self.old (link_new limits form file spot) self.new result }
+        ensures same { IsSameDraft self.old self.new }
     {
         let PathEnd::Named {
             entry,
@@ -162,10 +169,11 @@ impl<'t, 'c> Draft<'t, 'c> {
         old: &FilePath,
         new: &FilePath,
     ) -> Result<PlannedReply, CallError>
-        requires { self.old.edits ≡ [] }
-        ensures { Plans self.old
-            (rename_parts (directory_count self.old.look.cells) (parts_of old.now)
+        requires { self.old.edits.now ≡ [] }
+        ensures plans { Plans self.old
+            (rename_parts (directories_of self.old) (parts_of old.now)
             (parts_of new.now)) self.new result }
+        ensures same { IsSameDraft self.old self.new }
     {
         let from = text_parts(old)?;
         let to = text_parts(new)?;
@@ -178,10 +186,11 @@ impl<'t, 'c> Draft<'t, 'c> {
         old: &JudgedPath<'_>,
         new: &JudgedPath<'_>,
     ) -> Result<PlannedReply, CallError>
-        requires { self.old.edits ≡ [] }
-        ensures { Plans self.old
-            (rename_parts (directory_count self.old.look.cells) (Ok old.now) (Ok new.now))
+        requires { self.old.edits.now ≡ [] }
+        ensures plans { Plans self.old
+            (rename_parts (directories_of self.old) (Ok old.now) (Ok new.now))
             self.new result }
+        ensures same { IsSameDraft self.old self.new }
     {
         if let Some(errno) = rename_fault(old.last(), new.last()) {
             return Err(CallError::Errno(errno));
@@ -192,9 +201,11 @@ impl<'t, 'c> Draft<'t, 'c> {
 
     /// Plans to move the entry at the end of a walk to the end of a path.
     fn rename_old(&mut self, new: &JudgedPath<'_>, spot: PathEnd) -> Result<PlannedReply, CallError>
-        requires { self.old.edits ≡ [] }
-        ensures { Plans self.old (rename_old (directory_count self.old.look.cells) new.now spot)
+        requires { self.old.edits.now ≡ [] }
+        ensures plans { Plans self.old
+            (rename_old (directories_of self.old) new.now spot)
             self.new result }
+        ensures same { IsSameDraft self.old self.new }
     {
         let PathEnd::Named { entry, node, .. } = spot else {
             return Err(CallError::Errno(Errno::EBUSY));
@@ -214,9 +225,10 @@ impl<'t, 'c> Draft<'t, 'c> {
         file: u64,
         new: &JudgedPath<'_>,
     ) -> Result<PlannedReply, CallError>
-        requires { self.old.edits ≡ [] }
-        ensures { Plans self.old (from_parts false (Ok new.now) (rename_file old form file))
+        requires { self.old.edits.now ≡ [] }
+        ensures plans { Plans self.old (from_parts false (Ok new.now) (rename_file old form file))
             self.new result }
+        ensures same { IsSameDraft self.old self.new }
     {
         let spot = self.look.walk(self.alloc, false, new)?;
         self.rename_file(old, form, file, spot)
@@ -230,8 +242,9 @@ impl<'t, 'c> Draft<'t, 'c> {
         file: u64,
         spot: PathEnd,
     ) -> Result<PlannedReply, CallError>
-        requires { self.old.edits ≡ [] }
-        ensures { Plans self.old (rename_file old form file spot) self.new result }
+        requires { self.old.edits.now ≡ [] }
+        ensures plans { Plans self.old (rename_file old form file spot) self.new result }
+        ensures same { IsSameDraft self.old self.new }
     {
         let PathEnd::Named {
             entry: new,
@@ -244,7 +257,7 @@ impl<'t, 'c> Draft<'t, 'c> {
         match node {
             None if slash => Err(CallError::Errno(Errno::ENOTDIR)),
             None => {
-                push_rename(&mut self.edits, old, Node::File(form, file), new)?;
+                push_rename(self.edits, old, Node::File(form, file), new)?;
                 Ok(PlannedReply::Done)
             }
             Some(Node::File(_, replaced)) if replaced == file => Ok(PlannedReply::Done),
@@ -263,11 +276,12 @@ impl<'t, 'c> Draft<'t, 'c> {
         new: Entry,
         replaced: u64,
     ) -> Result<PlannedReply, CallError>
-        requires { self.old.edits ≡ [] }
-        ensures { Plans self.old (replace_file old moved new replaced) self.new result }
+        requires { self.old.edits.now ≡ [] }
+        ensures plans { Plans self.old (replace_file old moved new replaced) self.new result }
+        ensures same { IsSameDraft self.old self.new }
     {
         let links = self.look.links(replaced)?;
-        push_rename(&mut self.edits, old, moved, new)?;
+        push_rename(self.edits, old, moved, new)?;
         self.edits.push(Edit::Links {
             file: replaced,
             to: links.saturating_sub(1),
@@ -282,10 +296,11 @@ impl<'t, 'c> Draft<'t, 'c> {
         number: u64,
         new: &JudgedPath<'_>,
     ) -> Result<PlannedReply, CallError>
-        requires { self.old.edits ≡ [] }
-        ensures { Plans self.old
+        requires { self.old.edits.now ≡ [] }
+        ensures plans { Plans self.old
             (from_parts false (Ok new.now)
-            (rename_dir (directory_count self.old.look.cells) old number)) self.new result }
+            (rename_dir (directories_of self.old) old number)) self.new result }
+        ensures same { IsSameDraft self.old self.new }
     {
         let spot = self.look.walk(self.alloc, false, new)?;
         self.rename_dir(old, number, spot)
@@ -298,9 +313,11 @@ impl<'t, 'c> Draft<'t, 'c> {
         number: u64,
         spot: PathEnd,
     ) -> Result<PlannedReply, CallError>
-        requires { self.old.edits ≡ [] }
-        ensures { Plans self.old (rename_dir (directory_count self.old.look.cells) old number spot)
+        requires { self.old.edits.now ≡ [] }
+        ensures plans { Plans self.old
+            (rename_dir (directories_of self.old) old number spot)
             self.new result }
+        ensures same { IsSameDraft self.old self.new }
     {
         let PathEnd::Named {
             entry: new,
@@ -321,18 +338,18 @@ impl<'t, 'c> Draft<'t, 'c> {
     /// Plans to move the entry of a directory to a missing name, unless the directory would come to
     /// be below itself.
     fn move_dir(&mut self, old: Entry, number: u64, new: Entry) -> Result<PlannedReply, CallError>
-        requires { self.old.edits ≡ [] }
-        ensures { Plans self.old
-            (unless_below (directory_count self.old.look.cells) number new.dir
-            (Answer (renamed old (DirNode number) new (with_parent number old.dir new.dir))))
-            self.new result }
+        requires { self.old.edits.now ≡ [] }
+        ensures plans { Plans self.old
+            (rename_dir (directories_of self.old) old number (Named new None false)) self.new
+            result }
+        ensures same { IsSameDraft self.old self.new }
     {
         if self.look.climb(number, new.dir)? {
             return Err(CallError::Errno(Errno::EINVAL));
         }
         let (dir, into) = (old.dir, new.dir);
-        push_rename(&mut self.edits, old, Node::Dir(number), new)?;
-        with_parent(&mut self.edits, number, dir, into)?;
+        push_rename(self.edits, old, Node::Dir(number), new)?;
+        with_parent(self.edits, number, dir, into)?;
         Ok(PlannedReply::Done)
     }
 
@@ -345,10 +362,11 @@ impl<'t, 'c> Draft<'t, 'c> {
         new: Entry,
         replaced: u64,
     ) -> Result<PlannedReply, CallError>
-        requires { self.old.edits ≡ [] }
-        ensures { Plans self.old
-            (unless_below (directory_count self.old.look.cells) number new.dir
+        requires { self.old.edits.now ≡ [] }
+        ensures plans { Plans self.old
+            (unless_below (directories_of self.old) number new.dir
             (replace_dir old number new replaced)) self.new result }
+        ensures same { IsSameDraft self.old self.new }
     {
         if self.look.climb(number, new.dir)? {
             return Err(CallError::Errno(Errno::EINVAL));
@@ -365,16 +383,17 @@ impl<'t, 'c> Draft<'t, 'c> {
         new: Entry,
         replaced: u64,
     ) -> Result<PlannedReply, CallError>
-        requires { self.old.edits ≡ [] }
-        ensures { Plans self.old (replace_dir old number new replaced) self.new result }
+        requires { self.old.edits.now ≡ [] }
+        ensures plans { Plans self.old (replace_dir old number new replaced) self.new result }
+        ensures same { IsSameDraft self.old self.new }
     {
         if !self.look.is_empty_dir(replaced)? {
             return Err(CallError::Errno(Errno::ENOTEMPTY));
         }
         let (dir, into) = (old.dir, new.dir);
-        push_rename(&mut self.edits, old, Node::Dir(number), new)?;
-        dir_gone(&mut self.edits, replaced)?;
-        with_parent(&mut self.edits, number, dir, into)?;
+        push_rename(self.edits, old, Node::Dir(number), new)?;
+        dir_gone(self.edits, replaced)?;
+        with_parent(self.edits, number, dir, into)?;
         Ok(PlannedReply::Done)
     }
 }
@@ -412,9 +431,7 @@ fn push_rename(edits: &mut Edits<'_>, old: Entry, node: Node, new: Entry) -> Res
 
 /// Adds the edit that sets a directory's parent, if it moves to another directory.
 fn with_parent(edits: &mut Edits<'_>, number: u64, dir: u64, into: u64) -> Result<(), Memory>
-    ensures { (cells : Cells)
-        → OnOk result (writes_of cells edits.new ≡ writes_of cells edits.old
-        ++ with_parent number dir into) }
+    ensures { AddsWrites edits.old edits.new result (with_parent number dir into) }
 {
     if dir == into {
         return Ok(());

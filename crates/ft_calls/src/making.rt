@@ -1,8 +1,6 @@
 // The modes of new directories and files.
-ghost use Rattle.std.specs.Prelude.{◌≡◌, ◌++◌, OnOk};
-ghost use Rattle.ft_cells.specs.Cells.{Cells};
 ghost use Rattle.ft_posix.specs.Attributes.{dir_mode, file_mode};
-ghost use Rattle.ft_posix.specs.Computes.{writes_of};
+ghost use Rattle.ft_calls.specs.Drafts.{AddsWrites};
 
 use crate::attributes::Change;
 use ft_base::Memory;
@@ -17,8 +15,7 @@ pub(crate) fn set_dir_mode(
     dir: u64,
     mode: Option<u16>,
 ) -> Result<(), Memory>
-    ensures { (cells : Cells)
-        → OnOk result (writes_of cells edits.new ≡ writes_of cells edits.old ++ dir_mode dir mode) }
+    ensures { AddsWrites edits.old edits.new result (dir_mode dir mode) }
 {
     let Some(mode) = mode else {
         return Ok(());
@@ -37,9 +34,7 @@ pub(crate) fn set_file_mode(
     file: u64,
     mode: Option<u16>,
 ) -> Result<(), Memory>
-    ensures { (cells : Cells)
-        → OnOk result (writes_of cells edits.new ≡ writes_of cells edits.old
-        ++ file_mode file mode) }
+    ensures { AddsWrites edits.old edits.new result (file_mode file mode) }
 {
     let Some(mode) = mode else {
         return Ok(());

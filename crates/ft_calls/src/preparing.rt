@@ -11,7 +11,7 @@ ghost use Rattle.ft_tree.specs.Fronts.{LeadsIfAny, entries_of};
 ghost use Rattle.ft_posix.specs.Besides.{AreAlikeBut};
 ghost use Rattle.ft_posix.specs.Looking.{noted};
 ghost use Rattle.ft_posix.specs.Computes.{outcome_of};
-ghost use Rattle.ft_calls.specs.Drafts.{Plans, steps_of};
+ghost use Rattle.ft_calls.specs.Drafts.{Plans, IsSameDraft, steps_of, IsOutcome};
 
 use crate::descriptors::{fstat, pread};
 use crate::dirs::list;
@@ -67,14 +67,15 @@ pub fn intend<'c>(
     requires { bytes_of tree.now stamp ≡ [] }
     ensures { IfOk result (λ intent. outcome_of tree.now intent ≡ outcome tree.now stamp call.now) }
 {
+    let mut look = Look::new(alloc, tree);
+    let mut edits = Edits::new(alloc);
     let mut draft = Draft {
         alloc,
         stamp,
-        look: Look::new(alloc, tree),
-        edits: Edits::new(alloc),
+        look: &mut look,
+        edits: &mut edits,
     };
     let told = draft.plan_or_fail(call)?;
-    let Draft { edits, .. } = draft;
     Ok(Intent { told, edits })
 }
 
@@ -99,8 +100,7 @@ pub fn look_over<'c>(
     ensures accesses { IfOk result
         (λ looked. looked.accesses.items ≡ accesses_of tree.now stamp call.now) }
     ensures outcome { IfOk result
-        (λ looked. outcome_of tree.now (record { told = looked.told; edits = edits.new })
-        ≡ outcome tree.now stamp call.now) }
+        (λ looked. IsOutcome tree.now stamp call.now looked.told edits.new) }
     ensures places { AreSoundCells tree.now → OnOk result (CanEditAll tree.now edits.new) }
     ensures apart { AreSoundCells tree.now → OnOk result (Apart edits.new) }
 {
@@ -127,44 +127,39 @@ pub fn look_behind<'c>(
     ensures exact { option_copied front.entry ≡ None → IfOk result
         (λ looked. looked.accesses.items ≡ accesses_of tree.now stamp call.now) }
     ensures outcome { IfOk result
-        (λ looked. outcome_of tree.now (record { told = looked.told; edits = edits.new })
-        ≡ outcome tree.now stamp call.now) }
+        (λ looked. IsOutcome tree.now stamp call.now looked.told edits.new) }
     ensures places { AreSoundCells tree.now → OnOk result (CanEditAll tree.now edits.new) }
     ensures apart { AreSoundCells tree.now → OnOk result (Apart edits.new) }
 {
+    let mut look = Look::behind(alloc, tree, front);
     let mut draft = Draft {
         alloc,
         stamp,
-        look: Look::behind(alloc, tree, front),
-        edits: Edits::new(alloc),
+        look: &mut look,
+        edits,
     };
     let told = draft.plan_or_fail(call)?;
-    let Draft {
-        look,
-        edits: planned,
-        ..
-    } = draft;
-    let accesses = look.into_accesses(&planned)?;
-    *edits = planned;
+    let accesses = look.into_accesses(edits)?;
     Ok(Looked { accesses, told })
 }
 
-impl<'t, 'c> Draft<'t, 'c> {
+impl<'a, 'b, 't, 'c> Draft<'a, 'b, 't, 'c> {
     /// Returns the planned reply of a call, and adds its edits. A fault is a reply like others,
     /// without edits.
     fn plan_or_fail(&mut self, call: &'c Call) -> Result<PlannedReply, Memory>
-        requires none { self.old.edits ≡ [] }
-        requires fresh { bytes_of self.old.look.cells self.old.stamp ≡ [] }
+        requires none { self.old.edits.now ≡ [] }
+        requires fresh { bytes_of self.old.look.now.cells self.old.stamp ≡ [] }
         ensures outcome { IfOk result
-            (λ told. outcome_of self.old.look.cells (record { told = told; edits = self.new.edits })
-            ≡ outcome self.old.look.cells self.old.stamp call.now) }
-        ensures looks { OnOk result (self.new.look
-            ≡ noted self.old.look (steps_of self.old call.now)) }
+            (λ told. IsOutcome self.old.look.now.cells self.old.stamp call.now told
+            self.new.edits.now) }
+        ensures looks { OnOk result (self.new.look.now
+            ≡ noted self.old.look.now (steps_of self.old call.now)) }
+        ensures same { IsSameDraft self.old self.new }
     {
         match self.plan(call) {
             Ok(told) => Ok(told),
             Err(CallError::Errno(errno)) => {
-                drop(mem::replace(&mut self.edits, Edits::new(self.alloc)));
+                drop(mem::replace(self.edits, Edits::new(self.alloc)));
                 Ok(PlannedReply::Failed(errno))
             }
             Err(CallError::Memory) => Err(Memory),
@@ -173,31 +168,32 @@ impl<'t, 'c> Draft<'t, 'c> {
 
     /// Returns the planned reply of a call, and adds its edits. Fails with the fault of the call.
     fn plan(&mut self, call: &'c Call) -> Result<PlannedReply, CallError>
-        requires none { self.old.edits ≡ [] }
-        requires fresh { bytes_of self.old.look.cells self.old.stamp ≡ [] }
-        ensures { Plans self.old (steps_of self.old call.now) self.new result }
+        requires none { self.old.edits.now ≡ [] }
+        requires fresh { bytes_of self.old.look.now.cells self.old.stamp ≡ [] }
+        ensures plans { Plans self.old (steps_of self.old call.now) self.new result }
+        ensures same { IsSameDraft self.old self.new }
     {
         match call {
             Call::Mkdir { path, mode } => self.mkdir(*mode, path),
             Call::Rmdir { path } => self.rmdir(path),
-            Call::List { path } => list(self.alloc, &mut self.look, path),
+            Call::List { path } => list(self.alloc, self.look, path),
             Call::Open { path, flags } => self.open(path, *flags),
             Call::Close { fd } => self.close(*fd),
             Call::Read { fd, len } => self.read(*fd, *len),
             Call::Write { fd, bytes } => self.write(*fd, bytes.as_slice()),
-            Call::Pread { fd, off, len } => pread(&mut self.look, *fd, *off, *len),
+            Call::Pread { fd, off, len } => pread(self.look, *fd, *off, *len),
             Call::Pwrite { fd, off, bytes } => self.pwrite(*fd, *off, bytes.as_slice()),
             Call::Lseek { fd, whence, off } => self.lseek(*fd, *whence, *off),
             Call::Truncate { len, path } => self.truncate(*len, path),
             Call::Ftruncate { fd, len } => self.ftruncate(*fd, *len),
-            Call::Stat { path } => stat(self.alloc, &mut self.look, true, path),
-            Call::Fstat { fd } => fstat(&mut self.look, *fd),
+            Call::Stat { path } => stat(self.alloc, self.look, true, path),
+            Call::Fstat { fd } => fstat(self.look, *fd),
             Call::Link { old, new } => self.link(old, new),
             Call::Unlink { path } => self.unlink(path),
             Call::Rename { old, new } => self.rename(old, new),
             Call::Symlink { target, path } => self.symlink(target, path),
-            Call::Readlink { path } => readlink(self.alloc, &mut self.look, path),
-            Call::Lstat { path } => stat(self.alloc, &mut self.look, false, path),
+            Call::Readlink { path } => readlink(self.alloc, self.look, path),
+            Call::Lstat { path } => stat(self.alloc, self.look, false, path),
             Call::Chmod { mode, path } => self.chmod(*mode, path),
             Call::Fchmod { fd, mode } => self.fchmod(*fd, *mode),
             Call::Chown { owner, group, path } => self.chown(*owner, *group, path),

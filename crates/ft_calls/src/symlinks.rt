@@ -7,7 +7,7 @@ ghost use Rattle.ft_posix.specs.Outcomes.{from_parts};
 ghost use Rattle.ft_posix.specs.Symlinks.{target_fault, make_link, symlink_parts, read_link};
 ghost use Rattle.ft_posix.specs.Computes.{Computes};
 ghost use Rattle.ft_posix.specs.Intended.{intended};
-ghost use Rattle.ft_calls.specs.Drafts.{Plans};
+ghost use Rattle.ft_calls.specs.Drafts.{Plans, IsSameDraft};
 
 use crate::draft::Draft;
 use ft_looks::{Look, text_parts};
@@ -16,7 +16,7 @@ use ft_posix::{CallError, Edit, PlannedReply};
 use ft_tree::{Form, HintedFile, Node, PathEnd};
 use std::alloc::Global;
 
-impl<'t, 'c> Draft<'t, 'c> {
+impl<'a, 'b, 't, 'c> Draft<'a, 'b, 't, 'c> {
     /// Plans to make a symbolic link, which gets the stamp as its number.
     #[inline(never)]
     pub(crate) fn symlink(
@@ -24,10 +24,11 @@ impl<'t, 'c> Draft<'t, 'c> {
         target: &'c FilePath,
         path: &FilePath,
     ) -> Result<PlannedReply, CallError>
-        requires none { self.old.edits ≡ [] }
-        requires fresh { bytes_of self.old.look.cells self.old.stamp ≡ [] }
-        ensures { Plans self.old (symlink_parts self.old.stamp target.now (parts_of path.now))
+        requires none { self.old.edits.now ≡ [] }
+        requires fresh { bytes_of self.old.look.now.cells self.old.stamp ≡ [] }
+        ensures plans { Plans self.old (symlink_parts self.old.stamp target.now (parts_of path.now))
             self.new result }
+        ensures same { IsSameDraft self.old self.new }
     {
         let parts = text_parts(path)?;
         self.symlink_parts(target.as_bytes(), &parts)
@@ -39,10 +40,11 @@ impl<'t, 'c> Draft<'t, 'c> {
         target: &'c [u8],
         parts: &JudgedPath<'_>,
     ) -> Result<PlannedReply, CallError>
-        requires none { self.old.edits ≡ [] }
-        requires fresh { bytes_of self.old.look.cells self.old.stamp ≡ [] }
-        ensures { Plans self.old (symlink_parts self.old.stamp target.now (Ok parts.now))
+        requires none { self.old.edits.now ≡ [] }
+        requires fresh { bytes_of self.old.look.now.cells self.old.stamp ≡ [] }
+        ensures plans { Plans self.old (symlink_parts self.old.stamp target.now (Ok parts.now))
             self.new result }
+        ensures same { IsSameDraft self.old self.new }
     {
         if let Some(errno) = target_fault(target) {
             return Err(CallError::Errno(errno));
@@ -53,10 +55,11 @@ impl<'t, 'c> Draft<'t, 'c> {
 
     /// Plans to make a symbolic link at the end of a walk.
     fn make_link(&mut self, target: &'c [u8], spot: PathEnd) -> Result<PlannedReply, CallError>
-        requires none { self.old.edits ≡ [] }
-        requires fresh { bytes_of self.old.look.cells self.old.stamp ≡ [] }
+        requires none { self.old.edits.now ≡ [] }
+        requires fresh { bytes_of self.old.look.now.cells self.old.stamp ≡ [] }
         requires short { length target.now ≤ LONGEST_PATH }
-        ensures { Plans self.old (make_link self.old.stamp target.now spot) self.new result }
+        ensures plans { Plans self.old (make_link self.old.stamp target.now spot) self.new result }
+        ensures same { IsSameDraft self.old self.new }
     {
         let PathEnd::Named {
             entry,

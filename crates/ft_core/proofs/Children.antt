@@ -1,7 +1,7 @@
 -- The live children of a transaction, and that there is no live transaction at all.
-use Rattle.std.proofs.Common.{◌≡◌, ℕ, Bool, true, false, cond, List, [], ◌∷◌, Option, Some, None, is_some, inl, length, arith, refl, sym, ap, subst, ◌∙◌}
+use Rattle.std.proofs.Common.{◌≡◌, ℕ, Bool, true, false, cond, List, [], ◌∷◌, Option, Some, None, is_some, inl, inr, length, arith, refl, sym, ap, subst, ◌∙◌}
 use Rattle.std.specs.Prelude.{nat_lt, MatchBool}
-use Rattle.std.proofs.lemmas.Bool.{false≢true, lt-ltb}
+use Rattle.std.proofs.lemmas.Bool.{false≢true, cases_lt, lt-ltb, le-ltb}
 use Rattle.ft_base.specs.OwnedLists.{Lists}
 use Rattle.ft_laws.specs.Lists.{Each, In}
 use Rattle.ft_laws.proofs.Tests.{by_test}
@@ -9,7 +9,7 @@ use Rattle.ft_cells.specs.Cells.{Cells}
 use Rattle.ft_posix.specs.Posix.{posix_calls}
 use Rattle.ft_undo.specs.declared.logs.LogRecord.{LogRecord}
 use Rattle.ft_forest.specs.declared.state.State.TheVariants.{Live as LiveState}
-use Rattle.ft_forest.specs.Transactions.{Transactions, state_in, IsLiveUnder, IsLiveChild, IsYoungestChild}
+use Rattle.ft_forest.specs.Transactions.{Transactions, state_in, live_children_in, IsLiveUnder, IsLiveChild, IsYoungestChild}
 use Rattle.ft_lock_rules.specs.Locks.{LockTable}
 use Rattle.ft_history.specs.History.{Base as HistoryBase, IsLive, parent, live_children}
 use Rattle.ft_history.specs.Logs.{passing}
@@ -22,6 +22,7 @@ use Rattle.ft_core.specs.States.{Base, Asks, fate_in}
 use Rattle.ft_core.specs.Journals.{Journaled}
 use Rattle.ft_core.specs.Kept.{IsCoreAt}
 use Rattle.ft_core.specs.Laws.{CallLaws}
+use Rattle.ft_core.proofs.Counted.{child-counted, none-counted}
 use Rattle.ft_core.proofs.Ends.{fate-live}
 use Rattle.ft_core.proofs.Joining.{start, values, past}
 
@@ -56,6 +57,13 @@ module _ (W : CallLaws) {base : Base} {h : History} {asks : Asks} {last_txn last
       longer : (x : ℕ) (xs : List ℕ) → In x xs → nat_lt 0 (length xs) ≡ true
       longer x [] i = absurd i
       longer x (y ∷ ys) i = lt-ltb 0 (length (y ∷ ys)) (omega arith)
+
+  -- the forest counts some exactly if there are some
+  pub child-same : (t : ℕ) → nat_lt 0 (live_children_in forest t) ≡ nat_lt 0 (length (live_children posix_calls base.last_txn h t))
+  child-same t = elim (cases_lt 0 (live_children_in forest t)) [
+    | inl lt ↦ let child = child-counted forest t lt in lt-ltb 0 (live_children_in forest t) lt ∙ sym (some-child t child.0 child.1)
+    | inr ge ↦ let none : live_children_in forest t ≡ 0 = omega arith in le-ltb 0 (live_children_in forest t) ge ∙ sym (ap (λ xs. nat_lt 0 (length xs)) (no-child t (none-counted forest t none)))
+  ]
 
   -- a top-level transaction that is live in the forest is live
   pub some-live : (x : ℕ) → IsLiveUnder forest None x → IsLive posix_calls base.last_txn h x

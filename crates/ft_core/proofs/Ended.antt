@@ -78,14 +78,11 @@ refused rule s r fault is = subst (λ (o : Option Fault). MatchOption o (IsAnswe
 pub step-allowed : (rule : BlockingRule) (s s' : State) (r : Request) (a : Answer) → refusal_of s r ≡ None → IsAnswered rule s r a s' → IsStep rule s r a s'
 step-allowed rule s s' r a is answered = subst (λ (o : Option Fault). MatchOption o (IsAnswered rule s r a s') (λ f. (a ≡ Refused f) × (s' ≡ s))) (sym is) answered
 
-pub step-child : (rule : BlockingRule) (s : State) (t : ℕ) → fate_of s t ≡ Some Live → has_live_child s t ≡ true → IsStep rule s (CommitRequest t) (Refused ChildLive) s × IsStep rule s (UndoRequest t) (Refused ChildLive) s
-step-child rule s t live some = (
-  refused rule s (CommitRequest t) ChildLive (λ i. fault_of_fate (live i) (fault_if (some i) ChildLive None)),
-  refused rule s (UndoRequest t) ChildLive (λ i. fault_of_fate (live i) (fault_if (some i) ChildLive (fault_of_target (undo_target posix_calls (history s) t)))),
-)
+pub step-child : (rule : BlockingRule) (s : State) (t : ℕ) → fate_of s t ≡ Some Live → has_live_child s t ≡ true → IsStep rule s (UndoRequest t) (Refused ChildLive) s
+step-child rule s t live some = refused rule s (UndoRequest t) ChildLive (λ i. fault_of_fate (live i) (fault_if (some i) ChildLive (fault_of_target (undo_target posix_calls (history s) t))))
 
-pub step-commit : (rule : BlockingRule) (s s' : State) (t : ℕ) → fate_of s t ≡ Some Live → has_live_child s t ≡ false → s' ≡ after_commit s t → IsStep rule s (CommitRequest t) Committed s'
-step-commit rule s s' t live none is = step-allowed rule s s' (CommitRequest t) Committed (λ i. fault_of_fate (live i) (fault_if (none i) ChildLive None)) is
+pub step-commit : (rule : BlockingRule) (s s' : State) (t : ℕ) → refusal_of s (CommitRequest t) ≡ None → s' ≡ after_commit s t → IsStep rule s (CommitRequest t) Committed s'
+step-commit rule s s' t fine is = step-allowed rule s s' (CommitRequest t) Committed fine is
 
 pub step-abort : (rule : BlockingRule) (s s' : State) (t n : ℕ) → fate_of s t ≡ Some Live → n ≡ count_standing s t → s' ≡ after_abort s t → IsStep rule s (AbortRequest t) (Aborted n) s'
 step-abort rule s s' t n live count is = step-allowed rule s s' (AbortRequest t) (Aborted n) (λ i. fault_of_fate (live i) None) (count, is)

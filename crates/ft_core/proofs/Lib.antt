@@ -22,6 +22,7 @@ mod Noted
 mod Commits
 mod Undoes
 mod Aborts
+mod Counted
 mod Children
 mod Surveys
 mod Alone

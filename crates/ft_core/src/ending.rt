@@ -27,12 +27,7 @@ impl Core {
         ensures { IsStep exact_rule
             self.old.state (Commit txn) (answer_with (λ done. Committed) result) self.new.state }
     {
-        self.check_live(txn)?;
-        if self.parts.forest.live_children(txn) > 0 {
-            return Err(Fault::ChildLive);
-        }
-        let parent = self.parts.forest.parent(txn);
-        self.parts.forest.commit(txn)?;
+        let parent = self.parts.forest.commit(txn)?;
         self.parts.hand_up(txn, &parent);
         self.memo.forget(); // (its locks are others' now)
         self.journal.note_sub(parent);

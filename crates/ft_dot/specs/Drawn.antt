@@ -1,6 +1,6 @@
 -- A filter that draws the last report, and what it reads and writes. `left` is what the reader has
 -- left, before and after, and `held` what the writer holds.
-use Rattle.std.specs.Prelude.{ℕ, List, Option}
+use Rattle.std.specs.Prelude.{◌≡◌, ℕ, List, Option, Result, OnOk}
 use Rattle.std.specs.Io.KnownBytes.{Appends, Consumes, IsAtEnd, Keeps}
 use Rattle.ft_script.specs.declared.playing.PlayFault.{PlayFault}
 use Rattle.ft_script.specs.declared.playing.PlayFault.TheVariants.{Memory, Read, Write, TooLong, Turns}
@@ -28,3 +28,11 @@ StopsDrawing Read left left_after held held_after = ReadsSome left left_after he
 StopsDrawing Write left left_after held held_after = DrawsPart left left_after held held_after
 StopsDrawing TooLong left left_after held held_after = ⊥
 StopsDrawing Turns left left_after held held_after = ⊥
+
+-- The same of a reader, by what it has left, and of a writer, by what it holds.
+abbrev pub StopsDraw : {R W : Type 0} → (R → Option (List ℕ)) → (W → Option (List ℕ)) → R → R → W → W → PlayFault → Type 0
+StopsDraw left held reader reader_after writer writer_after fault = StopsDrawing fault (left reader) (left reader_after) (held writer) (held writer_after)
+
+-- Some bytes were read; without a fault, these are they.
+abbrev pub ReadsInto : Option (List ℕ) → Option (List ℕ) → Result (Unit {0}) PlayFault → List ℕ → Type 0
+ReadsInto left left_after result replies = (bytes : List ℕ) × Consumes left left_after bytes × OnOk result (replies ≡ bytes)

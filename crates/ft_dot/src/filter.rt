@@ -1,9 +1,9 @@
 // The filter: reads replies, and draws the last report among them.
-ghost use Rattle.std.specs.Prelude.{◌≡◌, ◌⊎◌, OnOk, IfOk, IfErr, string_bytes, List, ℕ, []};
-ghost use Rattle.std.specs.Io.KnownBytes.{Consumes, IsAtEnd};
+ghost use Rattle.std.specs.Prelude.{◌≡◌, ◌⊎◌, OnOk, IfOk, IfErr, string_bytes, []};
+ghost use Rattle.std.specs.Io.KnownBytes.{IsAtEnd};
 ghost use Rattle.ft_words.specs.Spelling.{lines_of};
 ghost use Rattle.ft_dot.specs.Drawing.{dot_of};
-ghost use Rattle.ft_dot.specs.Drawn.{Draws, StopsDrawing};
+ghost use Rattle.ft_dot.specs.Drawn.{Draws, StopsDraw, ReadsInto};
 
 use crate::drawing::Digraph;
 use crate::reading::last_report;
@@ -32,8 +32,8 @@ pub fn draw<R: Read, W: Write>(
 ) -> Result<(), PlayFault>
     ensures ok { OnOk result (Draws (R.remaining reader.old) (R.remaining reader.new)
         (W.contents writer.old) (W.contents writer.new)) }
-    ensures fault { IfErr result (λ fault. StopsDrawing fault (R.remaining reader.old)
-        (R.remaining reader.new) (W.contents writer.old) (W.contents writer.new)) }
+    ensures fault { IfErr result (StopsDraw R.remaining W.contents reader.old reader.new
+        writer.old writer.new) }
 {
     let mut replies = Vec::new(alloc);
     read_all(reader, &mut replies)?;
@@ -44,9 +44,8 @@ pub fn draw<R: Read, W: Write>(
 /// Reads all that a reader has left. A fault is Memory or Read. An interrupted read is tried again.
 pub fn read_all<R: Read>(reader: &mut R, replies: &mut Vec<u8>) -> Result<(), PlayFault>
     requires { replies.old.items ≡ [] }
-    ensures bytes { (bytes : List ℕ)
-        × Consumes (R.remaining reader.old) (R.remaining reader.new) bytes
-        × (OnOk result (replies.new.items ≡ bytes)) }
+    ensures bytes { ReadsInto (R.remaining reader.old) (R.remaining reader.new) result
+        replies.new.items }
     ensures end { OnOk result (IsAtEnd (R.remaining reader.new)) }
     ensures cause { IfErr result (λ fault. (fault ≡ PlayFault.Memory) ⊎ (fault ≡ PlayFault.Read)) }
 {

@@ -14,7 +14,7 @@ use Rattle.ft_forest.specs.declared.limits.ForestLimits.{ForestLimits}
 use Rattle.ft_forest.specs.declared.state.State.{State}
 use Rattle.ft_forest.specs.declared.state.State.TheVariants.{Live, Committed, Aborted}
 use Rattle.ft_forest.specs.declared.records.Records.{Records}
-use Rattle.ft_forest.specs.Transactions.{Transactions, transaction_in, parent_of, state_of, parent_in, state_in, last_in, over_in, is_live, depth_within, depth_in, is_live_child, live_children_in, IsLiveChild, IsLiveUnder, IsYoungestChild, IsOlderSibling, count_below}
+use Rattle.ft_forest.specs.Transactions.{Transaction, Transactions, transaction_in, parent_of, state_of, parent_in, state_in, last_in, over_in, is_live_state, is_live, depth_within, depth_in, is_live_child, live_children_in, IsLiveChild, IsLiveUnder, IsYoungestChild, IsOlderSibling, count_below}
 use Rattle.ft_forest.specs.Records.{Links, IsSibling, IsYoungest, IsOlder, links_of, number_at, transaction_from, transactions_of, AreRecords, is_child_at, DepthIs, parent_from, state_from}
 use Rattle.ft_forest.proofs.Counting.{child-of, count-same, count-none, count-found, count-zero}
 
@@ -25,6 +25,16 @@ by_place base t old new = elim (cases_lt base t) [ inl lt ↦ new (t - (base + 1
 pub same_place : (base i j : ℕ) → number_at base i ≡ number_at base j → i ≡ j
 same_place base i j e = omega arith
 
+-- the transaction at a place
+transaction-here : (m : Transactions) (i : ℕ) → transaction_in m (number_at m.base i) ≡ slice_get m.list i
+transaction-here m i =
+    let gap : number_at m.base i - (m.base + 1) ≡ i = omega arith in
+    ap (λ b. cond b (slice_get m.list (number_at m.base i - (m.base + 1))) None) (lt-ltb m.base (number_at m.base i) (omega arith))
+    ∙ ap (slice_get m.list) gap
+
+transaction-before : (m : Transactions) (t : ℕ) → t ≤ m.base → transaction_in m t ≡ None
+transaction-before m t le = ap (λ b. cond b (slice_get m.list (t - (m.base + 1))) None) (le-ltb m.base t le)
+
 module _ (limits : ForestLimits) (base : ℕ) (r : Records) where
   abbrev value : Transactions
   value = transactions_of limits base r
@@ -33,13 +43,7 @@ module _ (limits : ForestLimits) (base : ℕ) (r : Records) where
   links = links_of r
 
   pub transaction-at : (i : ℕ) → transaction_in value (number_at base i) ≡ option_map (transaction_from base) (slice_get r.list.items i)
-  transaction-at i =
-      let gap : number_at base i - (base + 1) ≡ i = omega arith in
-      ap (λ b. cond b (slice_get value.list (number_at base i - (base + 1))) None) (lt-ltb base (number_at base i) (omega arith))
-      ∙ ap (slice_get value.list) gap ∙ slice_get-map (transaction_from base) r.list.items i
-
-  pub transaction-none : (t : ℕ) → t ≤ base → transaction_in value t ≡ None
-  transaction-none t le = ap (λ b. cond b (slice_get value.list (t - (base + 1))) None) (le-ltb base t le)
+  transaction-at i = transaction-here value i ∙ slice_get-map (transaction_from base) r.list.items i
 
   pub state-at : (i : ℕ) → state_in value (number_at base i) ≡ links.state i
   state-at i = ap state_of (transaction-at i) ∙ by_record (slice_get r.list.items i)
@@ -56,10 +60,10 @@ module _ (limits : ForestLimits) (base : ℕ) (r : Records) where
       by_record (Some x) = refl
 
   pub state-none : (t : ℕ) → t ≤ base → state_in value t ≡ None
-  state-none t le = ap state_of (transaction-none t le)
+  state-none t le = ap state_of (transaction-before value t le)
 
   pub parent-none : (t : ℕ) → t ≤ base → parent_in value t ≡ None
-  parent-none t le = ap parent_of (transaction-none t le)
+  parent-none t le = ap parent_of (transaction-before value t le)
 
   -- no place has this number
   pub state-absent : (t : ℕ) → ((i : ℕ) → i < length r.list.items → t ≢ number_at base i) → state_in value t ≡ None
@@ -159,6 +163,35 @@ live-of (Some Live) e = refl
 live-of (Some Committed) e = absurd (false≢true e)
 live-of (Some Aborted) e = absurd (false≢true e)
 
+-- A live child is counted, and one that is counted is a live child.
+module _ (m : Transactions) (t : ℕ) where
+  child-up : (o : Option Transaction) → passes (is_live_child t) o ≡ true → (parent_of o ≡ Some t) × (state_of o ≡ Some Live)
+  child-up None e = absurd (false≢true e)
+  child-up (Some x) e = let parts = and_parts (is_some_and x.parent (λ q. q == t)) (is_live_state x.state) e in (child-of x.parent t parts.0, live-of (Some x.state) parts.1)
+
+  child-down : (o : Option Transaction) → parent_of o ≡ Some t → state_of o ≡ Some Live → passes (is_live_child t) o ≡ true
+  child-down None up live = absurd (none_some t up)
+  child-down (Some x) up live = (λ j. is_some_and (up j) (λ q. q == t) && is_live (live j)) ∙ ap (λ b. b && true) (eq-eqb t t refl)
+
+  abbrev is_child : ℕ → Bool
+  is_child i = passes (is_live_child t) (slice_get m.list i)
+
+  pub some-child : 0 < live_children_in m t → (x : ℕ) × IsLiveChild m t x
+  some-child lt =
+      let found = count-found is_child (length m.list) (subst (λ n. 0 < n) (count-list (is_live_child t) m.list) lt) in
+      let is = child-up (slice_get m.list found.0) found.2 in
+      (number_at m.base found.0, record { child = ap parent_of (transaction-here m found.0) ∙ is.0; live = ap state_of (transaction-here m found.0) ∙ is.1 })
+
+  pub no-child : live_children_in m t ≡ 0 → (x : ℕ) → IsLiveChild m t x → ⊥
+  no-child none x is = by_place m.base x
+      (λ le. none_live (sym (ap state_of (transaction-before m x le)) ∙ is.live))
+      (λ i e.
+      let here : transaction_in m x ≡ slice_get m.list i = ap (transaction_in m) e ∙ transaction-here m i in
+      elim (cases_lt i (length m.list)) [
+        | inl lt ↦ false≢true (sym (count-zero is_child (length m.list) (sym (count-list (is_live_child t) m.list) ∙ none) i lt) ∙ child-down (slice_get m.list i) (sym (ap parent_of here) ∙ is.child) (sym (ap state_of here) ∙ is.live))
+        | inr ge ↦ none_live (sym (ap state_of (here ∙ slice_get_past m.list i ge)) ∙ is.live)
+      ])
+
 module _ (limits : ForestLimits) (base : ℕ) (r : Records) where
   child-seen : (t i : ℕ) → passes (is_live_child t) (slice_get (transactions_of limits base r).list i) ≡ (is_some_and (option_map (number_at base) ((links_of r).parent i)) (λ q. q == t) && is_live ((links_of r).state i))
   child-seen t i = ap (passes (is_live_child t)) (slice_get-map (transaction_from base) r.list.items i) ∙ by_record (slice_get r.list.items i)
@@ -179,12 +212,6 @@ module _ (limits : ForestLimits) (base : ℕ) (r : Records) where
       ∙ ap (count_below (λ j. passes (is_live_child (number_at base i)) (slice_get (transactions_of limits base r).list j))) (length-map r.list.items (transaction_from base))
       ∙ count-same _ _ (length r.list.items) (λ j lt. child-seen (number_at base i) j ∙ ap (λ b. b && is_live ((links_of r).state j)) (same_child i ((links_of r).parent j)))
 
-  -- who counts, counts as a child
-  child-up : (t i : ℕ) → (is_some_and (option_map (number_at base) ((links_of r).parent i)) (λ q. q == t) && is_live ((links_of r).state i)) ≡ true → IsLiveChild (transactions_of limits base r) t (number_at base i)
-  child-up t i e =
-      let parts = and_parts (is_some_and (option_map (number_at base) ((links_of r).parent i)) (λ q. q == t)) (is_live ((links_of r).state i)) e in
-      record { child = parent-at limits base r i ∙ child-of (option_map (number_at base) ((links_of r).parent i)) t parts.0; live = state-at limits base r i ∙ live-of ((links_of r).state i) parts.1 }
-
 module _ (limits : ForestLimits) (base : ℕ) (r : Records) (h : AreRecords limits base r) (t : ℕ) where
   abbrev is_counted : ℕ → Bool
   is_counted i = is_some_and (option_map (number_at base) ((links_of r).parent i)) (λ q. q == t) && is_live ((links_of r).state i)
@@ -194,24 +221,6 @@ module _ (limits : ForestLimits) (base : ℕ) (r : Records) (h : AreRecords limi
       count-list (is_live_child t) (transactions_of limits base r).list
       ∙ ap (count_below (λ j. passes (is_live_child t) (slice_get (transactions_of limits base r).list j))) (length-map r.list.items (transaction_from base))
       ∙ count-same _ _ (length r.list.items) (λ j lt. child-seen limits base r t j)
-
-  -- a live child is a counted place
-  child-place : (x : ℕ) → IsLiveChild (transactions_of limits base r) t x → (i : ℕ) × (i < length r.list.items) × (is_counted i ≡ true) × (x ≡ number_at base i)
-  child-place x is = by_place base x
-      (λ le. absurd (none_live (sym (state-none limits base r x le) ∙ is.live)))
-      (λ i e.
-      let live : (links_of r).state i ≡ Some Live = sym (ap (state_in (transactions_of limits base r)) e ∙ state-at limits base r i) ∙ is.live in
-      let up : option_map (number_at base) ((links_of r).parent i) ≡ Some t = sym (ap (parent_in (transactions_of limits base r)) e ∙ parent-at limits base r i) ∙ is.child in
-      let lt : i < length r.list.items = elim (cases_lt i (length r.list.items)) [ inl lt ↦ lt | inr ge ↦ absurd (none_live (sym (h.linked.unbegun i ge) ∙ live)) ] in
-      (i, lt, (λ j. is_some_and (up j) (λ q. q == t) && is_live (live j)) ∙ ap (λ b. b && true) (eq-eqb t t refl), e))
-
-  pub some-child : 0 < live_children_in (transactions_of limits base r) t → (x : ℕ) × IsLiveChild (transactions_of limits base r) t x
-  some-child lt = let found = count-found is_counted (length r.list.items) (subst (λ n. 0 < n) all-counted lt) in (number_at base found.0, child-up limits base r t found.0 found.2)
-
-  pub no-child : live_children_in (transactions_of limits base r) t ≡ 0 → (x : ℕ) → IsLiveChild (transactions_of limits base r) t x → ⊥
-  no-child none x is =
-      let place = child-place x is in
-      false≢true (sym (count-zero is_counted (length r.list.items) (sym all-counted ∙ none) place.0 place.1) ∙ place.2)
 
   -- one that was not begun has none
   pub absent-children : ((i : ℕ) → i < length r.list.items → t ≢ number_at base i) → live_children_in (transactions_of limits base r) t ≡ 0

@@ -141,6 +141,35 @@ abbrev pub where_some : {A B : Type 0} → Option A → B → B → B
 where_some None some none = none
 where_some (Some x) some none = some
 
+-- the siblings on both sides of a gap are linked to each other
+abbrev pub with_gap_closed : Links → Option ℕ → Option ℕ → Links
+with_gap_closed s older younger = record s {
+  older = put_at s.older younger (λ _. older);
+  younger = put_at s.younger older (λ _. younger);
+}
+
+-- a parent has one more live child, which is its youngest
+abbrev pub with_child : Links → Option ℕ → ℕ → Links
+with_child s parent child = record s {
+  children = put_at s.children parent (λ n. n + 1);
+  youngest = put_youngest s.youngest parent (Some child);
+}
+
+-- a parent has one live child less, which was its youngest and had this next older sibling
+abbrev pub without_youngest : Links → Option ℕ → Option ℕ → Links
+without_youngest s parent older = record s {
+  children = put_at s.children parent (λ n. n - 1);
+  youngest = put_youngest s.youngest parent older;
+}
+
+-- a parent has one live child less, which had these siblings; if there is no younger one, the older
+-- one is its youngest
+abbrev pub without_child : Links → Option ℕ → Option ℕ → Option ℕ → Links
+without_child s parent older younger = record s {
+  children = put_at s.children parent (λ n. n - 1);
+  youngest = where_some younger s.youngest (put_youngest s.youngest parent older);
+}
+
 -- the siblings on both sides of a gap are linked to each other; if there is no younger one, the
 -- older one is the youngest of the parent
 abbrev pub closed_links : Links → Option ℕ → Option ℕ → Option ℕ → Links

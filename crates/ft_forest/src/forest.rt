@@ -33,6 +33,13 @@ pub struct Forest {
     records: Records,
 }
 
+/// Where a subtransaction may begin: the place of its parent, and its own depth.
+#[derive(Drop)]
+struct Room {
+    parent: usize,
+    depth: u64,
+}
+
 impl Drop for Forest {
     fn drop(self) {
         let Forest {
@@ -273,7 +280,7 @@ impl Forest {
             (λ fault. IsRefusal (sub_refusal self.old txn) fault) }
         ensures same { OnErr result (self.new ≡ self.old) }
     {
-        let (parent, depth) = self.room_below(txn)?;
+        let Room { parent, depth } = self.room_below(txn)?;
         self.add(Some(parent), depth)
     }
 
@@ -368,12 +375,13 @@ impl Forest {
         }
     }
 
-    /// Returns the place of a transaction below which there may be one more, and the depth of that
-    /// one. Refuses as `sub` does, except out of memory.
-    fn room_below(&self, txn: TxnId) -> Result<(usize, u64), ForestFault>
-        ensures place { IfOk result (λ below. txn ≡ number_at self.now.base below.0) }
+    /// Returns the room for a transaction below another. Refuses as `sub` does, except out of
+    /// memory.
+    fn room_below(&self, txn: TxnId) -> Result<Room, ForestFault>
+        ensures place { IfOk result (λ room. txn ≡ number_at self.now.base room.parent) }
         ensures live { OnOk result (state_in self.now txn ≡ Some Live) }
-        ensures deeper { IfOk result (λ below. IsDepthBelow self.now (Some below.0) below.1) }
+        ensures deeper { IfOk result
+            (λ room. IsDepthBelow self.now (Some room.parent) room.depth) }
         ensures room { OnOk result (begin_refusal self.now ≡ None) }
         ensures refused { MatchResult result
             (λ _. sub_refusal self.now txn ≡ None)
@@ -386,7 +394,10 @@ impl Forest {
             return Err(ForestFault::Deep);
         }
         self.check_begin()?;
-        Ok((parent, depth + 1))
+        Ok(Room {
+            parent,
+            depth: depth + 1,
+        })
     }
 
     /// Returns the place of a live transaction. Refuses with `NoTxn` or `Ended`.

@@ -2,7 +2,7 @@
 ghost use Rattle.std.specs.Prelude.{◌≡◌, ◌<◌, ◌+◌, ◌-◌, ◌^◌, ℕ, [], true, Some, None, IfOk, IfSome, OnOk, OnErr, length};
 ghost use Rattle.std.specs.Option.{ForSome};
 ghost use Rattle.ft_history.specs.Logs.{put};
-ghost use Rattle.ft_forest.specs.Records.{no_links, links_of, put_youngest, put_at, where_some, forgotten_links, ended_links, begun_links};
+ghost use Rattle.ft_forest.specs.Records.{no_links, links_of, put_at, with_gap_closed, with_child, without_child, without_youngest, forgotten_links, ended_links, begun_links};
 
 use crate::record::{LiveRecord, Record};
 use crate::state::State;
@@ -82,11 +82,7 @@ impl Records {
     fn close_gap(&mut self, older: Option<usize>, younger: Option<usize>)
         requires older { ForSome older (λ p. (links_of self.old).kept p ≡ true) }
         requires younger { ForSome younger (λ p. (links_of self.old).kept p ≡ true) }
-        ensures { links_of self.new
-            ≡ (let s = links_of self.old in record s {
-              older = put_at s.older younger (λ _. older);
-              younger = put_at s.younger older (λ _. younger);
-            }) }
+        ensures { links_of self.new ≡ with_gap_closed (links_of self.old) older younger }
     {
         if let Some(sibling) = younger {
             self.set_older(sibling, older);
@@ -161,12 +157,7 @@ impl Records {
     fn add_child(&mut self, parent: Option<usize>, child: usize)
         requires kept { ForSome parent (λ p. (links_of self.old).kept p ≡ true) }
         requires few { (p : ℕ) → (links_of self.old).children p < 2 ^ 63 }
-        ensures { links_of self.new
-            ≡ (let s = links_of self.old in
-            record s {
-              children = put_at s.children parent (λ n. n + 1);
-              youngest = put_youngest s.youngest parent (Some child);
-            }) }
+        ensures { links_of self.new ≡ with_child (links_of self.old) parent child }
     {
         match parent {
             Some(place) => {
@@ -182,12 +173,7 @@ impl Records {
     /// Counts one live child less, which had these siblings.
     fn take_child(&mut self, parent: Option<usize>, older: Option<usize>, younger: Option<usize>)
         requires { ForSome parent (λ p. (links_of self.old).kept p ≡ true) }
-        ensures { links_of self.new
-            ≡ (let s = links_of self.old in
-            record s {
-              children = put_at s.children parent (λ n. n - 1);
-              youngest = where_some younger s.youngest (put_youngest s.youngest parent older);
-            }) }
+        ensures { links_of self.new ≡ without_child (links_of self.old) parent older younger }
     {
         match younger {
             Some(_) => self.take_older_child(parent),
@@ -212,12 +198,7 @@ impl Records {
     /// Counts one live child less, which was the youngest and had this next older sibling.
     fn take_youngest(&mut self, parent: Option<usize>, older: Option<usize>)
         requires { ForSome parent (λ p. (links_of self.old).kept p ≡ true) }
-        ensures { links_of self.new
-            ≡ (let s = links_of self.old in
-            record s {
-              children = put_at s.children parent (λ n. n - 1);
-              youngest = put_youngest s.youngest parent older;
-            }) }
+        ensures { links_of self.new ≡ without_youngest (links_of self.old) parent older }
     {
         match parent {
             Some(place) => {

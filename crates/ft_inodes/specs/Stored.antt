@@ -5,7 +5,7 @@ use Rattle.std.specs.FinMap as finite
 use Rattle.std.specs.Coded.{Coded, code_by, coded×, coded_ℕ}
 use Rattle.ft_cells.specs.declared.node.Node.{Node}
 use Rattle.ft_cells.specs.declared.node.Node.TheVariants.{Dir, File}
-use Rattle.ft_cells.specs.Cells.{DirCells, FileCells, coded_dir_cells, coded_file_cells}
+use Rattle.ft_cells.specs.Cells.{DirCells, Contents, FileCells, coded_dir_cells, coded_file_cells}
 
 -- the stored directories and files, by number
 pub record InodeCells : Type 0 where
@@ -27,6 +27,10 @@ no_inode = record { directories = finite.empty; files = finite.empty }
 abbrev pub is_stored : InodeCells → Node → Bool
 is_stored c (Dir n) = finite.contains_key c.directories n
 is_stored c (File form n) = finite.contains_key c.files n
+
+-- the file with other contents
+abbrev pub with_contents : FileCells → Contents → FileCells
+with_contents file contents = record { links = file.links; attributes = file.attributes; contents = contents }
 
 -- the store with this directory under a number, whatever was there
 abbrev pub with_directory : InodeCells → ℕ → DirCells → InodeCells

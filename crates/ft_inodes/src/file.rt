@@ -1,8 +1,9 @@
 // One file: how many entries name it, its attributes, and what it holds.
 ghost use Rattle.std.specs.Prelude.{◌≡◌, ◌≤◌, [], None, length, IsOk, IfOk, OnOk, OnErr};
 ghost use Rattle.ft_body.specs.declared.TheConstants.{LARGEST_SIZE};
-ghost use Rattle.ft_body.specs.Bytes.{fitting, written, resized};
+ghost use Rattle.ft_body.specs.Bytes.{fitting, after_write, resized};
 ghost use Rattle.ft_cells.specs.Cells.{FileCells, coded_file_cells, no_contents, untimed, timed};
+ghost use Rattle.ft_inodes.specs.Stored.{with_contents};
 
 use ft_base::Memory;
 use ft_body::{Body, BodyUndo};
@@ -139,11 +140,7 @@ impl File {
     /// Sets the time of the bytes, and returns the previous one. Takes no memory.
     pub fn set_time(&mut self, to: Rare<Timestamp>) -> Rare<Timestamp>
         ensures was { result ≡ self.old.contents.time }
-        ensures set { self.new ≡ record {
-          links = self.old.links;
-          attributes = self.old.attributes;
-          contents = timed self.old.contents to;
-        } }
+        ensures set { self.new ≡ with_contents self.old (timed self.old.contents to) }
     {
         mem::replace(&mut self.time, to)
     }
@@ -157,12 +154,9 @@ impl File {
         requires { offset ≤ LARGEST_SIZE }
         ensures taken { IfOk result
             (λ done. done.0 ≡ length (fitting LARGEST_SIZE bytes.now offset)) }
-        ensures file { OnOk result (self.new ≡ record {
-          links = self.old.links;
-          attributes = self.old.attributes;
-          contents = untimed (written self.old.contents.bytes offset
-              (fitting LARGEST_SIZE bytes.now offset));
-        }) }
+        ensures file { OnOk result (self.new
+            ≡ with_contents self.old
+            (untimed (after_write self.old.contents.bytes offset bytes.now))) }
         ensures undo { IfOk result
             (λ done. done.1 ≡ record { before = self.old.contents; after = self.new.contents }) }
         ensures err { OnErr result (self.new ≡ self.old) }
@@ -180,11 +174,8 @@ impl File {
     /// has this size.
     pub fn set_len(&mut self, size: u64) -> Result<FileUndo, Memory>
         requires { size ≤ LARGEST_SIZE }
-        ensures file { OnOk result (self.new ≡ record {
-          links = self.old.links;
-          attributes = self.old.attributes;
-          contents = untimed (resized self.old.contents.bytes size);
-        }) }
+        ensures file { OnOk result (self.new
+            ≡ with_contents self.old (untimed (resized self.old.contents.bytes size))) }
         ensures undo { IfOk result
             (λ undo. undo ≡ record { before = self.old.contents; after = self.new.contents }) }
         ensures err { OnErr result (self.new ≡ self.old) }
@@ -198,11 +189,7 @@ impl File {
     /// Undoes a change of the bytes. The file must have the contents that the change left.
     pub fn undo(&mut self, undo: FileUndo)
         requires { self.old.contents ≡ undo.after }
-        ensures { self.new ≡ record {
-          links = self.old.links;
-          attributes = self.old.attributes;
-          contents = undo.before;
-        } }
+        ensures { self.new ≡ with_contents self.old undo.before }
     {
         let (body, time) = undo.into_parts();
         self.body.undo(body);

@@ -20,17 +20,18 @@ use Rattle.ft_job_text.specs.Texts.{outcome_text}
 abbrev pub text_of_outcome : List Job → JobsOutcome → List ℕ
 text_of_outcome jobs outcome = outcome_text jobs outcome.reports.items outcome.core.state.events (tree_text (rows_of (tree_of outcome.core.state)))
 
--- The bytes are the plan of some jobs, and the text is that of an outcome of them: they have run on
--- a core that was in this state, and their reports are what happened; and whether they ended as the
--- plan means, if it is strict.
-pub record IsTextOfPlan (met : Bool) (from : State) (bytes text : List ℕ) : Type 0 where
-  pub jobs : List Job
+-- The text is that of an outcome of jobs: they have run on a core that was in this state, and their
+-- reports are what happened; and whether they ended as the plan means, if it is strict.
+pub record IsTextOfJobs (met : Bool) (from : State) (jobs : List Job) (text : List ℕ) : Type 0 where
   pub outcome : JobsOutcome
-  pub plan : IsPlanOf bytes jobs
   pub goes_on : GoesOn from outcome.core.state
   pub reports : AreReports outcome.core.state jobs outcome.reports.items
   pub told : text ≡ text_of_outcome jobs outcome
   pub as_meant : met ≡ are_met jobs outcome.reports.items
+
+-- the bytes are the plan of some jobs, and the text is that of an outcome of them
+abbrev pub IsTextOfPlan : Bool → State → List ℕ → List ℕ → Type 0
+IsTextOfPlan met from bytes text = (jobs : List Job) × IsPlanOf bytes jobs × IsTextOfJobs met from jobs text
 
 -- the bytes are the plan of no jobs
 abbrev pub IsNoPlan : List ℕ → Type 0

@@ -2,12 +2,14 @@
 //! text of their outcome.
 #![tactic(auto)]
 
+mod job_run;
 mod progress;
 mod running;
 mod text;
 mod watch;
 mod watched;
 
+pub use job_run::JobRun;
 pub use progress::Progress;
 pub use running::{RunFault, run_plan};
 pub use text::OutcomeText;

@@ -1,11 +1,12 @@
 // Runs a plan: reads it, runs its jobs in threads, and writes their outcome.
-ghost use Rattle.std.specs.Prelude.{◌≡◌, ◌≢◌, IfOk, IfErr, IsErrOf, string_bytes};
+ghost use Rattle.std.specs.Prelude.{◌≡◌, ◌≢◌, IfOk, IfErr, string_bytes};
 ghost use Rattle.ft_core.specs.Living.{NoneIsLive};
 ghost use Rattle.ft_record.specs.Going.{GoesOn};
 ghost use Rattle.ft_job_reports.specs.Reports.{AreReports};
 ghost use Rattle.ft_shared.specs.Origins.{without_views};
-ghost use Rattle.ft_job_text.specs.Runs.{IsNoPlan, IsTextOfPlan, RunsPlan, StopsPlan, text_of_outcome};
+ghost use Rattle.ft_job_text.specs.Runs.{IsTextOfJobs, RunsPlan, StopsPlan, text_of_outcome};
 
+use crate::job_run::JobRun;
 use crate::text::OutcomeText;
 use crate::watched::run_jobs_shown;
 use ft_base::Memory;
@@ -69,7 +70,13 @@ pub fn run_plan<R: Threads + Wait + Clock + Sync, S: Write + Send + Drop, W: Wri
         (λ fault. StopsPlan fault core.state plan.now (W.contents writer.old)
         (W.contents writer.new)) }
 {
-    let (text, met) = text_of(rt, alloc, core, plan, pace, screen)?;
+    let plan = Plan::read(alloc, plan)?;
+    let run = JobRun {
+        plan: &plan,
+        pace,
+        screen,
+    };
+    let (text, met) = text_of(rt, alloc, core, run)?;
     match write_out(writer, text.as_bytes()) {
         Ok(()) => Ok(met),
         Err(_) => Err(RunFault::Write),
@@ -82,19 +89,17 @@ fn text_of<R: Threads + Wait + Clock + Sync, S: Write + Send + Drop>(
     rt: &R,
     alloc: Global,
     core: Recorded,
-    plan: &[u8],
-    pace: Pace,
-    screen: Option<S>,
+    run: JobRun<'_, S>,
 ) -> Result<(String, bool), JobFault>
     requires { NoneIsLive core.state }
     ensures ok { IfOk result
-        (λ told. IsTextOfPlan told.1 core.state plan.now (string_bytes told.0)) }
-    ensures bad_plan { IsErrOf result JobFault.BadPlan → IsNoPlan plan.now }
+        (λ told. IsTextOfJobs told.1 core.state run.entry.plan.now (string_bytes told.0)) }
+    ensures cause { IfErr result (λ fault. fault ≢ JobFault.BadPlan) }
 {
-    let plan = Plan::read(alloc, plan)?;
-    let outcome = run_on::<Brand, R, S>(rt, alloc, core, &plan, pace, screen)?;
-    let text = told(alloc, plan.jobs(), &outcome)?;
-    let met = are_met(plan.jobs(), outcome.reports.as_slice());
+    let jobs = run.plan.jobs();
+    let outcome = run_on::<Brand, R, S>(rt, alloc, core, run)?;
+    let text = told(alloc, jobs, &outcome)?;
+    let met = are_met(jobs, outcome.reports.as_slice());
     Ok((text, met))
 }
 
@@ -113,24 +118,22 @@ fn told(alloc: Global, jobs: &[Job], outcome: &JobsOutcome) -> Result<String, Me
     Ok(format!(in alloc; "{text}")?)
 }
 
-/// Runs the jobs of a plan on a core, which the name `J` describes.
+/// Runs them on a core, which the name `J` describes.
 fn run_on<J: Sharing + Send + Sync, R: Threads + Wait + Clock + Sync, S: Write + Send + Drop>(
     rt: &R,
     alloc: Global,
     core: Recorded,
-    plan: &Plan,
-    pace: Pace,
-    screen: Option<S>,
+    run: JobRun<'_, S>,
 ) -> Result<JobsOutcome, JobFault>
     requires none_live { NoneIsLive core.state }
     requires named { without_views core.state ≡ J.origin }
     ensures ok { IfOk result
-        (λ outcome. AreReports outcome.core.state plan.now outcome.reports.items) }
+        (λ outcome. AreReports outcome.core.state run.entry.plan.now outcome.reports.items) }
     ensures core { IfOk result (λ outcome. GoesOn core.state outcome.core.state) }
     ensures cause { IfErr result (λ fault. fault ≢ JobFault.BadPlan) }
 {
     match Shared::<J>::new(core) {
-        Ok(shared) => run_jobs_shown(rt, alloc, plan, shared, pace, screen),
+        Ok(shared) => run_jobs_shown(rt, alloc, shared, run),
         Err(_) => unreachable!(),
     }
 }

@@ -2,8 +2,9 @@
 ghost use Rattle.std.specs.Prelude.{◌≢◌, IfOk, IfErr};
 ghost use Rattle.ft_job_reports.specs.Reports.{AreReports};
 
+use crate::job_run::JobRun;
 use crate::watch::Watch;
-use ft_jobs::{JobFault, JobsOutcome, OpenGate, Pace, Plan, Report, run_jobs, run_jobs_unchecked};
+use ft_jobs::{JobFault, JobsOutcome, OpenGate, Report, run_jobs, run_jobs_unchecked};
 use ft_shared::Manager;
 use std::alloc::Global;
 use std::io::Write;
@@ -18,59 +19,58 @@ use std::time::Clock;
 pub fn run_jobs_shown<M: Manager, R: Threads + Wait + Clock + Sync, S: Write + Send + Drop>(
     rt: &R,
     alloc: Global,
-    plan: &Plan,
     manager: M,
-    pace: Pace,
-    screen: Option<S>,
+    run: JobRun<'_, S>,
 ) -> Result<JobsOutcome, JobFault>
     ensures ok { IfOk result
-        (λ outcome. AreReports outcome.core.state plan.now outcome.reports.items) }
+        (λ outcome. AreReports outcome.core.state run.entry.plan.now outcome.reports.items) }
     ensures core { IfOk result (λ outcome. M.hands_back outcome.core.state) }
     ensures cause { IfErr result (λ fault. fault ≢ JobFault.BadPlan) }
 {
-    match (screen, Watch::new(alloc, plan.jobs())) {
-        (Some(screen), Ok(watch)) => run_watched(rt, alloc, plan, manager, pace, &watch, screen),
-        _ => run_jobs(rt, alloc, plan, manager, &OpenGate, pace),
+    if run.screen.is_some() {
+        if let Ok(watch) = Watch::new(alloc, run.plan.jobs()) {
+            return run_watched(rt, alloc, manager, run, &watch);
+        }
     }
+    run_jobs(rt, alloc, run.plan, manager, &OpenGate, run.pace)
 }
 
 /// Runs them under a watch, which another thread shows.
 fn run_watched<M: Manager, R: Threads + Wait + Clock + Sync, S: Write + Send + Drop>(
     rt: &R,
     alloc: Global,
-    plan: &Plan,
     manager: M,
-    pace: Pace,
+    run: JobRun<'_, S>,
     watch: &Watch<'_>,
-    screen: S,
 ) -> Result<JobsOutcome, JobFault>
     ensures ok { IfOk result
-        (λ outcome. AreReports outcome.core.state plan.now outcome.reports.items) }
+        (λ outcome. AreReports outcome.core.state run.entry.plan.now outcome.reports.items) }
     ensures core { IfOk result (λ outcome. M.hands_back outcome.core.state) }
     ensures cause { IfErr result (λ fault. fault ≢ JobFault.BadPlan) }
 {
-    let run = report_watched(rt, alloc, plan, &manager, pace, watch, screen);
+    let plan = run.plan;
+    let reports = report_watched(rt, alloc, &manager, run, watch);
     let core = manager.into_core(rt);
-    JobsOutcome::checked(alloc, plan, core, run?)
+    JobsOutcome::checked(alloc, plan, core, reports?)
 }
 
 /// Runs them so, and returns what they report.
 fn report_watched<M: Manager, R: Threads + Wait + Clock + Sync, S: Write + Send + Drop>(
     rt: &R,
     alloc: Global,
-    plan: &Plan,
     manager: &M,
-    pace: Pace,
+    run: JobRun<'_, S>,
     watch: &Watch<'_>,
-    screen: S,
 ) -> Result<Vec<Report>, JobFault>
     ensures { IfErr result (λ fault. fault ≢ JobFault.BadPlan) }
 {
     thread::scope(thread::scope_env(), rt, move |scope| {
-        let mut screen = screen;
-        let _ = scope.spawn(move || watch.show(rt, alloc, &mut screen));
-        let run = run_jobs_unchecked(rt, alloc, plan, manager, watch, pace);
+        let JobRun { plan, pace, screen } = run;
+        if let Some(mut screen) = screen {
+            let _ = scope.spawn(move || watch.show(rt, alloc, &mut screen));
+        }
+        let reports = run_jobs_unchecked(rt, alloc, plan, manager, watch, pace);
         watch.stop(rt);
-        run
+        reports
     })
 }

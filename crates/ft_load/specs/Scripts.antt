@@ -14,6 +14,7 @@ use Rattle.ft_posix.specs.declared.call.Call.TheVariants as calls
 use Rattle.ft_words.specs.CallTexts.{call_text}
 use Rattle.ft_path.specs.Name.{has_nul}
 use Rattle.ft_core.specs.declared.limits.Limits.{Limits}
+use Rattle.ft_load.specs.declared.script.Script.{Script}
 use Rattle.ft_needs.specs.Lines.{needs_text}
 use Rattle.ft_script.specs.Runs.{WritesPart}
 use Rattle.ft_copy.specs.declared.copy_fault.CopyFault.{CopyFault}
@@ -188,3 +189,21 @@ AsksForAll limits calls next held next_after held_after =
 abbrev pub FailsToAskAll : Limits → CopyFault → List Call → ℕ → Option (List ℕ) → Option (List ℕ) → Type 0
 FailsToAskAll limits trouble calls next held held_after =
     FailsToSay trouble (calls_text calls) held held_after ⊎ BreaksOffBetween ⊥ limits trouble calls next held held_after
+
+-- ---- the same of a script, by what its writer holds
+
+-- the call was written
+abbrev pub WritesCall : {W : Type 0} → (W → Option (List ℕ)) → Call → Script W → Script W → Type 0
+WritesCall held call old new = AsksFor old.limits call old.next (held old.writer) new.next (held new.writer)
+
+-- it was not, for this trouble
+abbrev pub FailsToWriteCall : {W : Type 0} → (W → Option (List ℕ)) → CopyFault → Call → Script W → Script W → Type 0
+FailsToWriteCall held trouble call old new = FailsToAsk old.limits trouble call old.next (held old.writer) (held new.writer)
+
+-- the calls were written
+abbrev pub WritesCalls : {W : Type 0} → (W → Option (List ℕ)) → List Call → Script W → Script W → Type 0
+WritesCalls held calls old new = AsksForAll old.limits calls old.next (held old.writer) new.next (held new.writer)
+
+-- not all were, for this trouble
+abbrev pub FailsToWriteCalls : {W : Type 0} → (W → Option (List ℕ)) → CopyFault → List Call → Script W → Script W → Type 0
+FailsToWriteCalls held trouble calls old new = FailsToAskAll old.limits trouble calls old.next (held old.writer) (held new.writer)

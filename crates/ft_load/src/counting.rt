@@ -27,9 +27,10 @@ pub fn needs_of<S: Source>(
 ) -> Result<Limits, Memory>
     ensures size { IfOk result (λ limits. limits.file_size ≤ most.file_size) }
     ensures calls { IfOk result (λ limits. limits.calls ≤ most.calls) }
-    ensures least { IfOk result
-        (λ limits. (min default_limits.file_size most.file_size ≤ limits.file_size)
-        × (min default_limits.calls most.calls ≤ limits.calls)) }
+    ensures least_size { IfOk result
+        (λ limits. min default_limits.file_size most.file_size ≤ limits.file_size) }
+    ensures least_calls { IfOk result
+        (λ limits. min default_limits.calls most.calls ≤ limits.calls) }
     ensures others { IfOk result
         (λ limits. limits ≡ record most { file_size = limits.file_size; calls = limits.calls }) }
 {

@@ -2,7 +2,7 @@
 ghost use Rattle.std.specs.Prelude.{◌≡◌, ◌⊎◌, ◌<◌, suc, true, IfErr, IfOk, IsTrue, OnOk};
 ghost use Rattle.ft_path.specs.Name.{has_nul};
 ghost use Rattle.std.specs.Option.{option_to_list};
-ghost use Rattle.ft_load.specs.Scripts.{AsksFor, AsksForAll, FailsToAsk, FailsToAskAll, FailsToSay, Says, chmod_of, chown_of, fchown_of, futime_of, has_owners, said_mode};
+ghost use Rattle.ft_load.specs.Scripts.{FailsToSay, FailsToWriteCall, FailsToWriteCalls, Says, WritesCall, WritesCalls, chmod_of, chown_of, fchown_of, futime_of, has_owners, said_mode};
 
 use ft_cells::{AccessMode, Attributes, Kind, Timestamp};
 use ft_copy::{CopyFault, Target};
@@ -35,12 +35,9 @@ pub(crate) struct Script<W> {
 impl<W: Write> Script<W> {
     /// Writes a call. More calls than the limits allow are refused.
     fn ask(&mut self, call: &Call) -> Result<(), CopyFault>
-        ensures call { OnOk result
-            (AsksFor self.old.limits call.now self.old.next (W.contents self.old.writer)
-            self.new.next (W.contents self.new.writer)) }
+        ensures call { OnOk result (WritesCall W.contents call.now self.old self.new) }
         ensures err { IfErr result
-            (λ trouble. FailsToAsk self.old.limits trouble call.now self.old.next
-            (W.contents self.old.writer) (W.contents self.new.writer)) }
+            (λ trouble. FailsToWriteCall W.contents trouble call.now self.old self.new) }
         ensures fd { self.new.fd ≡ self.old.fd }
         ensures limits { self.new.limits ≡ self.old.limits }
     {
@@ -59,11 +56,9 @@ impl<W: Write> Script<W> {
     /// Writes a call, if there is one.
     fn ask_if(&mut self, call: Option<Call>) -> Result<(), CopyFault>
         ensures call { OnOk result
-            (AsksForAll self.old.limits (option_to_list call) self.old.next
-            (W.contents self.old.writer) self.new.next (W.contents self.new.writer)) }
-        ensures err { IfErr result
-            (λ trouble. FailsToAskAll self.old.limits trouble (option_to_list call) self.old.next
-            (W.contents self.old.writer) (W.contents self.new.writer)) }
+            (WritesCalls W.contents (option_to_list call) self.old self.new) }
+        ensures err { IfErr result (λ trouble. FailsToWriteCalls W.contents trouble
+            (option_to_list call) self.old self.new) }
         ensures fd { self.new.fd ≡ self.old.fd }
         ensures limits { self.new.limits ≡ self.old.limits }
     {

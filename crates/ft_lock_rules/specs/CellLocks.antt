@@ -1,11 +1,12 @@
 -- The owners that have locks on one cell, and their locks.
-use Rattle.std.specs.Prelude.{◌≡◌, ℕ, List, [], ◌∷◌, map, ◌<◌, length, get_or, position, ◌==◌, Option, Some, None, unwrap_or, false, drop, ◌+◌, refl}
+use Rattle.std.specs.Prelude.{◌≡◌, ℕ, List, [], ◌∷◌, map, ◌<◌, length, get_or, position, ◌==◌, Option, Some, None, unwrap_or, true, false, drop, slice_set, ◌+◌, refl}
 use Rattle.std.specs.Ordering.{nat_cmp}
 use Rattle.std.specs.Coded.{Coded, code_by, coded×, coded_ℕ}
 use Rattle.std.specs.List.{list_any}
 use Rattle.std.specs.FinMap as finite
 use Rattle.ft_lock_rules.specs.declared.lock_modes.LockModes.{LockModes}
 use Rattle.ft_lock_rules.specs.contracts.lock_modes.LockModes as marks
+use Rattle.ft_posix.specs.declared.call.Mode.{Mode}
 use Rattle.ft_posix.specs.declared.call.Mode.TheVariants.{Read as ReadMode}
 use Rattle.ft_lock_rules.specs.LockModes.{no_marks, with_marks, conflicts_with}
 use Rattle.ft_lock_rules.specs.declared.cell_locks.OwnerLocks.{OwnerLocks}
@@ -43,6 +44,10 @@ pub record IsPlaceOf (list : List OwnerLocks) (place owner : ℕ) : Type 0 where
 abbrev pub AreApart : List OwnerLocks → Type 0
 AreApart [] = Unit {0}
 AreApart (h ∷ more) = (marks_in more h.owner ≡ None) × AreApart more
+
+-- each owner whose locks conflict with an access in this mode is in the list with its locks
+abbrev pub HasConflicting : Owners → List OwnerLocks → Mode → Type 0
+HasConflicting owners list mode = (u : ℕ) (marks : LockModes) → finite.get owners u ≡ Some marks → conflicts_with marks mode ≡ true → marks_in list u ≡ Some marks
 
 -- the owners after one adds more locks to its own, if it has a place
 abbrev pub marked_at : Owners → ℕ → LockModes → Option LockModes → Owners
@@ -88,3 +93,14 @@ pub record IsIndexOf (x : Indexed) (list : List OwnerLocks) : Type 0 where
 abbrev pub IsIndexIf : Option Indexed → List OwnerLocks → Type 0
 IsIndexIf None list = Unit {0}
 IsIndexIf (Some x) list = IsIndexOf x list
+
+-- the index of a list becomes the index of the list in which the owner at a place has these locks
+abbrev pub FollowsMarks : Option Indexed → Option Indexed → ℕ → LockModes → Type 0
+FollowsMarks old new place marks =
+    (list : List OwnerLocks) (owner : ℕ) → AreApart list → IsPlaceOf list place owner → IsIndexIf old list → IsIndexIf new (slice_set list place (record { owner = owner; marks = marks }))
+
+-- the index of a list becomes the index of the list in which an owner at a place has given it to
+-- one that had none
+abbrev pub FollowsMove : Option Indexed → Option Indexed → ℕ → ℕ → OwnerLocks → Type 0
+FollowsMove old new place from to =
+    (list : List OwnerLocks) → AreApart list → IsPlaceOf list place from → marks_in list to.owner ≡ None → IsIndexIf old list → IsIndexIf new (slice_set list place to)

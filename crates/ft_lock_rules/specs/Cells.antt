@@ -74,3 +74,8 @@ is_at cell owner c u = same_cell c cell && (u == owner)
 abbrev pub UpdatesMark : Cells → Cells → Cell → ℕ → (Option LockModes → Option LockModes) → Type 0
 UpdatesMark old new cell owner change =
     (c : Cell) (u : ℕ) → marks_at new c u ≡ cond (is_at cell owner c u) (change (marks_at old c u)) (marks_at old c u)
+
+-- an owner gives its place on a cell to another, and no other marks change
+abbrev pub HandsPlace : Cells → Cells → Cell → ℕ → ℕ → Type 0
+HandsPlace old new cell from to =
+    (c : Cell) (u : ℕ) → marks_at new c u ≡ cond (same_cell c cell) (after_hand from to (marks_at old c) u) (marks_at old c u)

@@ -4,6 +4,8 @@ use Rattle.std.specs.List.{count_by}
 use Rattle.std.specs.Ordering.{eq_by_cmp}
 use Rattle.ft_cells.specs.declared.cell.Cell.{Cell}
 use Rattle.ft_cells.specs.CellOrder.{same_cell}
+use Rattle.ft_posix.specs.declared.call.Mode.{Mode}
+use Rattle.ft_lock_rules.specs.declared.line.LockKind.{LockKind}
 use Rattle.ft_lock_rules.specs.declared.line.LockLine.{LockLine}
 use Rattle.ft_lock_rules.specs.declared.cell_locks.OwnerLocks.{OwnerLocks}
 use Rattle.ft_lock_rules.specs.LockModes.{has_mark}
@@ -28,3 +30,7 @@ AreAdded old new more = (l : LockLine) → times_listed new l ≡ times_listed o
 -- the line's lock is one of this owner's on the cell
 abbrev pub is_by : Cell → LockLine → OwnerLocks → Bool
 is_by cell l h = same_cell l.cell cell && ((h.owner == l.owner) && has_mark h.marks l.mode l.kind)
+
+-- the line is the lock of this mode and kind of an owner on the cell, which the owner has
+abbrev pub is_lock_of : Cell → OwnerLocks → Mode → LockKind → LockLine → Bool
+is_lock_of cell h mode kind l = same_line l (record { cell = cell; owner = h.owner; mode = mode; kind = kind }) && has_mark h.marks mode kind

@@ -53,6 +53,10 @@ table_of m lists = record {
 abbrev pub locks_in : HeldPlaces → LockTable
 locks_in held = table_of held.cells held.lists
 
+-- the same without the list of an owner
+abbrev pub locks_without : HeldPlaces → ℕ → LockTable
+locks_without held owner = table_of held.cells (finite.remove held.lists owner)
+
 -- each transaction that has a place on a cell has a lock there, and the owner of the released cells
 -- has no lock
 pub record IsKept (m : Cells) (lists : Lists Cell) : Type 0 where

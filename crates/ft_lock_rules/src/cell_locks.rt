@@ -50,8 +50,7 @@ impl Model for CellLocks {
 }
 
 impl CellLocks {
-    ghost use Rattle.ft_lock_rules.specs.LockModes.{conflicts_with};
-    ghost use Rattle.ft_lock_rules.specs.CellLocks.{as_entries, marked, handed};
+    ghost use Rattle.ft_lock_rules.specs.CellLocks.{as_entries, marked, handed, HasConflicting};
 
     /// Returns the locks of a cell on which no owner has a place. Takes no memory.
     pub fn new(alloc: Global) -> CellLocks
@@ -94,8 +93,7 @@ impl CellLocks {
     /// These owners are then at most as many as were above one another at that time, however many
     /// have read since.
     pub fn may_conflict(&self, mode: Mode) -> &[OwnerLocks]
-        ensures all { (u : ℕ) (marks : LockModes) → finite.get self.now u ≡ Some marks
-            → conflicts_with marks mode ≡ true → marks_in result.now u ≡ Some marks }
+        ensures all { HasConflicting self.now result.now mode }
         ensures had { (u : ℕ) (marks : LockModes) → marks_in result.now u ≡ Some marks
             → finite.get self.now u ≡ Some marks }
         ensures apart { AreApart result.now }

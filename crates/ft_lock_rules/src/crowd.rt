@@ -1,12 +1,12 @@
 // The owners that have locks on one cell, if there are several: a list by owner.
-ghost use Rattle.std.specs.Prelude.{◌≡◌, ◌≢◌, ◌==◌, not, ℕ, true, false, None, Some, [], ◌∷◌, ◌++◌, List, slice_set, OnOk, OnErr, IfOk, IfSome, IfNone, IsSome, IsTrue};
+ghost use Rattle.std.specs.Prelude.{◌≡◌, ◌≢◌, ◌==◌, not, ℕ, true, false, None, Some, [], ◌∷◌, ◌++◌, List, OnOk, OnErr, IfOk, IfSome, IfNone, IsSome, IsTrue};
 ghost use Rattle.std.specs.FinMap as finite;
 ghost use Rattle.std.specs.List.{list_any};
 ghost use Rattle.std.specs.Option.{option_copied};
 ghost use Rattle.ft_lock_rules.specs.declared.lock_modes.LockModes.{LockModes};
 ghost use Rattle.ft_lock_rules.specs.declared.cell_locks.OwnerLocks.{OwnerLocks};
 ghost use Rattle.ft_lock_rules.specs.LockModes.{is_marked, is_marked_of};
-ghost use Rattle.ft_lock_rules.specs.CellLocks.{place_in, marks_in, AreApart, IsPlaceOf, IsIndexOf, IsIndexIf};
+ghost use Rattle.ft_lock_rules.specs.CellLocks.{place_in, marks_in, AreApart, IsPlaceOf, IsIndexOf, IsIndexIf, FollowsMarks, FollowsMove};
 
 use crate::cell_locks::OwnerLocks;
 use crate::lock_modes::LockModes;
@@ -115,9 +115,7 @@ fn index_behind(
 
 /// Records in an index, if there is one, the locks that the owner at a place has from now on.
 fn index_marks(index: &mut Option<OwnerIndex>, place: usize, marks: LockModes)
-    ensures { (list : List OwnerLocks) (owner : ℕ) → AreApart list → IsPlaceOf list place owner
-        → IsIndexIf index.old list
-        → IsIndexIf index.new (slice_set list place (record { owner = owner; marks = marks })) }
+    ensures { FollowsMarks index.old index.new place marks }
 {
     if let Some(index) = index {
         index.mark(place, marks);
@@ -127,9 +125,7 @@ fn index_marks(index: &mut Option<OwnerIndex>, place: usize, marks: LockModes)
 /// Puts another owner at the place of one in the index of a list, if there is one. If the index has
 /// no room for it, the index is dropped. Takes no memory.
 fn index_moved(index: &mut Option<OwnerIndex>, place: usize, from: u64, to: OwnerLocks)
-    ensures { (list : List OwnerLocks) → AreApart list → IsPlaceOf list place from
-        → marks_in list to.owner ≡ None → IsIndexIf index.old list
-        → IsIndexIf index.new (slice_set list place to) }
+    ensures { FollowsMove index.old index.new place from to }
 {
     let Some(kept) = index else {
         return;
@@ -165,8 +161,7 @@ fn has_others(list: &[OwnerLocks], owner: u64) -> bool
 }
 
 impl Crowd {
-    ghost use Rattle.ft_lock_rules.specs.LockModes.{conflicts_with};
-    ghost use Rattle.ft_lock_rules.specs.CellLocks.{alone, as_entries, AreApart, marked, handed};
+    ghost use Rattle.ft_lock_rules.specs.CellLocks.{alone, as_entries, AreApart, marked, handed, HasConflicting};
 
     /// Returns the locks of a cell on which no owner has a place. Takes no memory.
     pub(crate) fn new(alloc: Global) -> Crowd
@@ -219,8 +214,7 @@ impl Crowd {
     /// These owners are then at most as many as were above one another at that time, however many
     /// have read since.
     pub(crate) fn may_conflict(&self, mode: Mode) -> &[OwnerLocks]
-        ensures all { (u : ℕ) (marks : LockModes) → finite.get self.now u ≡ Some marks
-            → conflicts_with marks mode ≡ true → marks_in result.now u ≡ Some marks }
+        ensures all { HasConflicting self.now result.now mode }
         ensures had { (u : ℕ) (marks : LockModes) → marks_in result.now u ≡ Some marks
             → finite.get self.now u ≡ Some marks }
         ensures apart { AreApart result.now }

@@ -1,5 +1,5 @@
 -- The cells that were released all at once and are not reported yet.
-use Rattle.std.specs.Prelude.{◌≡◌, ◌<◌, ℕ, Bool, not, List, [], ◌∷◌, cond, drop, filter, None, IsSome}
+use Rattle.std.specs.Prelude.{◌≡◌, ◌<◌, ◌&&◌, ℕ, Bool, true, not, List, [], ◌∷◌, cond, drop, filter, None, Some, IsSome}
 use Rattle.std.specs.List.{list_any}
 use Rattle.std.specs.FinMap as finite
 use Rattle.std.specs.FinSet as set
@@ -9,6 +9,7 @@ use Rattle.ft_cells.specs.CellOrder.{same_cell}
 use Rattle.ft_lock_rules.specs.CellLocks.{Owners}
 use Rattle.ft_lock_rules.specs.LockModes.{is_marked_of}
 use Rattle.ft_lock_rules.specs.Locks.{LockTable, is_locked}
+use Rattle.ft_lock_rules.specs.Knowing.{is_known}
 use Rattle.ft_locks.specs.declared.cells.Locked.{Locked}
 
 -- some owner among these has a lock
@@ -27,6 +28,15 @@ left_in (e ∷ bulk) = cond (has_lock_among e.1.holders) (e.1.cell ∷ left_in b
 -- the cell is one of them
 abbrev pub is_left : List (ℕ × Locked) → Cell → Bool
 is_left bulk c = list_any (same_cell c) (left_in bulk)
+
+-- some owner had a lock on the cell when it was released, and the table has it neither locked nor
+-- released
+abbrev pub is_unreported : LockTable → Locked → Bool
+is_unreported t l = has_lock_among l.holders && not (is_known t l.cell)
+
+-- the cell under a key is this one, and unreported
+abbrev pub IsUnreportedAt : LockTable → Slab Locked → ℕ → Cell → Type 0
+IsUnreportedAt t s key cell = (l : Locked) × (get s key ≡ Some l) × (l.cell ≡ cell) × (is_unreported t l ≡ true)
 
 -- the table in which, in addition, those of these cells are released that are not locked
 abbrev pub with_bulk : List (ℕ × Locked) → LockTable → LockTable

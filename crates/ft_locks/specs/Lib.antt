@@ -1,5 +1,6 @@
 -- What the crate keeps true of itself.
 pub mod Asking
+pub mod Giving
 pub mod Hashes
 pub mod EntryKeys
 pub mod Slots

@@ -1,12 +1,12 @@
 // The cells that were released all at once, until they are reported.
-ghost use Rattle.std.specs.Prelude.{◌≡◌, ◌<◌, ◌==◌, ◌&&◌, not, ℕ, true, false, [], IsSome, IfSome, IfNone};
+ghost use Rattle.std.specs.Prelude.{◌≡◌, ◌<◌, ◌==◌, ◌&&◌, ℕ, true, false, [], IsSome, IfSome, IfNone};
 ghost use Rattle.slab.specs.Slab.{get, entries};
 ghost use Rattle.ft_locks.specs.declared.cells.Locked.{Locked as LockedOf};
 ghost use Rattle.ft_lock_rules.specs.Holdings.{AreSingle};
 ghost use Rattle.ft_lock_rules.specs.Knowing.{is_known};
 ghost use Rattle.ft_lock_rules.specs.Locks.{is_released};
 ghost use Rattle.ft_lock_rules.specs.Seen.{locks_in};
-ghost use Rattle.ft_locks.specs.BulkReleased.{has_lock_among, left_in, with_bulk, IsTaken};
+ghost use Rattle.ft_locks.specs.BulkReleased.{is_unreported, IsUnreportedAt, left_in, with_bulk, IsTaken};
 
 use crate::cells::{Locked, RELEASED};
 use crate::holdings::Holdings;
@@ -59,8 +59,7 @@ fn is_known(holdings: &Holdings, cell: &Cell) -> bool
 /// Returns whether a cell that was released with others at once is to be reported: some owner had a
 /// lock on it, it is not locked now, and it was not released one by one.
 fn is_unreported(holdings: &Holdings, bulk: &Locked) -> bool
-    ensures { result ≡ (has_lock_among bulk.now.holders
-        && not (is_known (locks_in holdings.now) bulk.now.cell)) }
+    ensures { result ≡ is_unreported (locks_in holdings.now) bulk.now }
 {
     bulk.holders.is_locked() && !is_known(holdings, &bulk.cell)
 }
@@ -69,10 +68,9 @@ fn is_unreported(holdings: &Holdings, bulk: &Locked) -> bool
 /// place. Takes no memory.
 fn take_cell(cells: &mut Slab<Locked>, key: usize, holdings: &Holdings) -> Option<Cell>
     ensures told { IfSome result
-        (λ cell. (l : LockedOf) × (get cells.old key ≡ Some l) × (l.cell ≡ cell)
-        × ((has_lock_among l.holders && not (is_known (locks_in holdings.now) l.cell)) ≡ true)) }
+        (IsUnreportedAt (locks_in holdings.now) cells.old key) }
     ensures passed { IfNone result ((l : LockedOf) → get cells.old key ≡ Some l
-        → (has_lock_among l.holders && not (is_known (locks_in holdings.now) l.cell)) ≡ false) }
+        → is_unreported (locks_in holdings.now) l ≡ false) }
     ensures others { (k : ℕ) → (k == key) ≡ false → get cells.new k ≡ get cells.old k }
     ensures still { (k : ℕ) → IsSome (get cells.new k) → IsSome (get cells.old k) }
 {

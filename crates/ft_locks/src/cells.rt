@@ -5,14 +5,13 @@ ghost use Rattle.std.specs.FinMap as finite;
 ghost use Rattle.std.specs.Borrow.{sem};
 ghost use Rattle.ft_cells.specs.declared.cell.Cell.{Cell};
 ghost use Rattle.ft_cells.specs.declared.cell.Cell.TheVariants.{Names};
-ghost use Rattle.ft_cells.specs.CellOrder.{same_cell};
 ghost use Rattle.ft_lock_rules.specs.LockModes.{with_marks};
 ghost use Rattle.slab.specs.Slab.{get};
 ghost use Rattle.ft_lock_rules.specs.Blocking.{AreEntriesOf};
 ghost use Rattle.ft_locks.specs.Hashes.{cell_hash};
 ghost use Rattle.ft_locks.specs.EntryKeys.{key_at, listed_keys, spot_of, is_spot, UpdatesKeys};
 ghost use Rattle.ft_locks.specs.Slots.{ArePlaced, HaveGap, ShowSame, with_place, is_names};
-ghost use Rattle.ft_lock_rules.specs.Cells.{marks_at, passed_to, after_hand, holders_under, Keeps, UpdatesMark};
+ghost use Rattle.ft_lock_rules.specs.Cells.{marks_at, passed_to, holders_under, Keeps, UpdatesMark, HandsPlace};
 ghost use Rattle.ft_lock_rules.specs.Holdings.{AreSingle};
 ghost use Rattle.ft_lock_rules.specs.Listing.{AreAdded, once};
 ghost use Rattle.ft_lock_rules.specs.Seen.{has_line, is_marked_at};
@@ -303,10 +302,8 @@ impl LockedCells {
         requires apart { from ≢ to }
         ensures merged { IfSome (finite.get self.old.at key) (λ cell. result
             ≡ is_some (marks_at self.old.cells cell to)) }
-        ensures after { IfSome (finite.get self.old.at key) (λ cell. (c : Cell) (u : ℕ)
-            → marks_at self.new.cells c u
-            ≡ cond (same_cell c cell) (after_hand from to (marks_at self.old.cells c) u)
-            (marks_at self.old.cells c u)) }
+        ensures after { IfSome (finite.get self.old.at key)
+            (λ cell. HandsPlace self.old.cells self.new.cells cell from to) }
         ensures at { self.new.at ≡ self.old.at }
     {
         let holders = self.get_mut(key).unwrap();

@@ -73,10 +73,10 @@ fn hand_all(cells: &mut LockedCells, keys: Values<'_, usize>, from: u64, to: u64
 }
 
 impl Holdings {
-    ghost use Rattle.std.specs.Prelude.{◌&&◌, ◌||◌};
-    ghost use Rattle.ft_lock_rules.specs.Locks.{is_held, is_given, is_accessed, has_access};
     ghost use Rattle.ft_lock_rules.specs.Listing.{AreAdded, once};
     ghost use Rattle.ft_lock_rules.specs.Seen.{has_line, is_marked_at};
+    ghost use Rattle.ft_lock_rules.specs.Surveys.{HoldsAll};
+    ghost use Rattle.ft_locks.specs.Giving.{KeepsOtherLines, AddsPlaces, AddsLinesAtPlaces};
     ghost use Rattle.ft_locks.specs.BulkReleased.{left_in, is_left};
     ghost use Rattle.ft_lock_rules.specs.Holdings.{after_back};
 
@@ -312,15 +312,12 @@ impl Holdings {
     /// already had a place. If there is not enough memory, nothing changes.
     pub(crate) fn reserve(&mut self, owner: u64, accesses: &[Access]) -> Result<bool, Memory>
         requires { IsOpen self.old.lists owner }
-        ensures lines { OnOk result ((l : LockLine)
-            → (has_line self.new.cells l || is_given owner accesses.now l)
-            ≡ (has_line self.old.cells l || is_given owner accesses.now l)) }
+        ensures lines { OnOk result
+            (KeepsOtherLines self.old.cells self.new.cells owner accesses.now) }
         ensures all { IfOk result
-            (λ has_all. has_all ≡ true → (l : LockLine) → is_given owner accesses.now l ≡ true
-            → has_line self.new.cells l ≡ true) }
-        ensures places { OnOk result ((c : Cell) (u : ℕ)
-            → has_place self.new.cells c u
-            ≡ (has_place self.old.cells c u || ((u == owner) && is_accessed accesses.now c))) }
+            (λ has_all. has_all ≡ true → HoldsAll self.new.cells owner accesses.now) }
+        ensures places { OnOk result
+            (AddsPlaces self.old.cells self.new.cells owner accesses.now) }
         ensures err { OnErr result ((c : Cell) (u : ℕ)
             → marks_at self.new.cells c u ≡ marks_at self.old.cells c u) }
         ensures still { AreOpenStill self.old.lists self.new.lists }
@@ -347,11 +344,7 @@ impl Holdings {
     /// Gives an owner the locks of these accesses on all cells on which it has a place. Takes no
     /// memory.
     pub(crate) fn mark_all(&mut self, owner: u64, accesses: &[Access])
-        ensures lines { (l : LockLine)
-            → has_line self.new.cells l
-            ≡ (has_line self.old.cells l
-            || (has_place self.old.cells l.cell l.owner && is_held l.kind && (l.owner == owner)
-            && has_access accesses.now l.cell l.mode)) }
+        ensures lines { AddsLinesAtPlaces self.old.cells self.new.cells owner accesses.now }
         ensures places { (c : Cell) (u : ℕ)
             → has_place self.new.cells c u ≡ has_place self.old.cells c u }
         ensures lists { self.new.lists ≡ self.old.lists }

@@ -1,9 +1,8 @@
 // The locks, a line for each.
-ghost use Rattle.std.specs.Prelude.{◌&&◌, OnOk};
+ghost use Rattle.std.specs.Prelude.{OnOk};
 ghost use Rattle.std.specs.List.{count_by};
 ghost use Rattle.slab.specs.Slab.{entries};
-ghost use Rattle.ft_lock_rules.specs.LockModes.{has_mark};
-ghost use Rattle.ft_lock_rules.specs.Listing.{same_line, AreAdded, once, is_by};
+ghost use Rattle.ft_lock_rules.specs.Listing.{AreAdded, once, is_by, is_lock_of};
 ghost use Rattle.ft_locks.specs.Slots.{is_on};
 
 use crate::cells::Locked;
@@ -24,12 +23,7 @@ fn list_lock(
 ) -> Result<(), Memory>
     ensures { OnOk result (AreAdded lines.old.items
         lines.new.items (λ l. once
-        (same_line l (record {
-          cell = cell.now;
-          owner = holding.now.owner;
-          mode = mode;
-          kind = kind;
-        }) && has_mark holding.now.marks mode kind))) }
+        (is_lock_of cell.now holding.now mode kind l))) }
 {
     if holding.marks.has(mode, kind) {
         let cell = cell.clone()?;

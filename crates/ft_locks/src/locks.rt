@@ -4,7 +4,7 @@ ghost use Rattle.std.specs.FinMap as finite;
 ghost use Rattle.std.specs.FinSet as set;
 ghost use Rattle.ft_base.specs.OwnedLists.{list_in, IsOpen};
 ghost use Rattle.ft_lock_rules.specs.Holdings.{AreSingle};
-ghost use Rattle.ft_lock_rules.specs.Seen.{table_of, IsKept, locks_in};
+ghost use Rattle.ft_lock_rules.specs.Seen.{table_of, IsKept, locks_in, locks_without};
 ghost use Rattle.ft_locks.specs.BulkReleased.{left_in, with_bulk, IsTaken};
 ghost use Rattle.ft_lock_rules.specs.Locks.{no_locks, is_locked, is_released, is_opened, AreBlockers, AreGranted, AreInherited, AreListed, AreReleased};
 ghost use Rattle.ft_lock_rules.specs.Rules.{is_strict};
@@ -258,8 +258,7 @@ fn release_places(holdings: &mut Holdings, bulk: &mut BulkReleased, owner: u64)
     ensures list { list_in holdings.new.lists owner ≡ [] }
     ensures single { AreSingle (left_in bulk.old) → AreSingle (left_in bulk.new) }
     ensures released { AreReleased (with_bulk bulk.old (locks_in holdings.old))
-        (with_bulk bulk.new (table_of holdings.new.cells (finite.remove holdings.new.lists owner)))
-        owner }
+        (with_bulk bulk.new (locks_without holdings.new owner)) owner }
 {
     if bulk.is_empty() && holdings.give_up(owner, bulk) {
         return;
@@ -276,7 +275,7 @@ fn take_listed(holdings: &mut Holdings) -> Option<Cell>
     ensures taken { IfSome result
         (λ cell. IsTaken (locks_in holdings.old) (locks_in holdings.new) cell) }
     ensures none { IfNone result (((locks_in holdings.old).released_cells ≡ set.empty)
-        × (table_of holdings.new.cells holdings.new.lists ≡ locks_in holdings.old)) }
+        × (locks_in holdings.new ≡ locks_in holdings.old)) }
 {
     while let Some(dropped) = holdings.drop_front(RELEASED) {
         if dropped.freed.is_some() {

@@ -6,7 +6,7 @@ ghost use Rattle.ft_cells.specs.CellOrder.{same_cell};
 ghost use Rattle.ft_cells.specs.declared.cell.Cell.TheVariants.{Entry};
 ghost use Rattle.ft_posix.specs.declared.call.Mode.TheVariants.{Read as ReadMode, Write as WriteMode};
 ghost use Rattle.ft_posix.specs.Accesses.{listed, place_in, is_noted, AreInOrder};
-ghost use Rattle.ft_looks.specs.Notes.{with_notes, AreInOrderIf};
+ghost use Rattle.ft_looks.specs.Notes.{notes_of, AreInOrderIf};
 
 use ft_base::Memory;
 use ft_posix::{Access, Mode};
@@ -40,13 +40,13 @@ impl Model for AccessSet {
     ghost use Rattle.ft_cells.specs.contracts.cell.Cell as cell;
     ghost use Rattle.ft_posix.specs.contracts.call.Mode as mode;
     ghost use Rattle.ft_posix.specs.Accesses.{Modes};
-    ghost use Rattle.ft_looks.specs.Notes.{with_notes, AreInOrderIf};
+    ghost use Rattle.ft_looks.specs.Notes.{notes_of, AreInOrderIf};
 
     ghost Value = { Modes };
 
     ghost coded = { finite.code cell.the_row.coded mode.the_row.coded };
 
-    ghost view = { λ a. with_notes finite.empty a.list.items };
+    ghost view = { λ a. notes_of a.list.items };
 
     ghost invariant = { λ a. AreInOrderIf a.is_in_order a.list.items };
 }
@@ -235,8 +235,8 @@ fn put(
     requires place { at ≡ place_in access.cell list.old.items }
     requires missing { is_noted access.cell list.old.items ≡ false }
     ensures order { AreInOrderIf is_in_order.new list.new.items }
-    ensures noted { OnOk result (with_notes finite.empty list.new.items
-        ≡ finite.insert (with_notes finite.empty list.old.items) access.cell access.mode) }
+    ensures noted { OnOk result (notes_of list.new.items
+        ≡ finite.insert (notes_of list.old.items) access.cell access.mode) }
     ensures wanting { OnErr result (list.new.items ≡ list.old.items) }
 {
     let behind = list.len() - at;

@@ -1,2 +1,3 @@
 -- What callers cite.
 pub mod FaultLines
+pub mod Statuses

@@ -1,14 +1,14 @@
 // The status that the program ends with.
 ghost use Rattle.std.specs.Prelude.{◌≡◌, ◌⊎◌, true, false};
 ghost use Rattle.std.specs.Io.KnownBytes.{Keeps};
-ghost use Rattle.ft_dot.specs.Drawn.{Draws, StopsDrawing};
-ghost use Rattle.ft_job_text.specs.Runs.{RunsPlan, StopsPlan};
-ghost use Rattle.ft_run.specs.FaultLines.{TellsLine, after_line, fault_line, run_fault_line, save_line, stopped_line};
-ghost use Rattle.ft_script.specs.Runs.{AnswersFreely, PlaysAll, StopsAt, WritesFront};
+ghost use Rattle.ft_dot.specs.Drawn.{Draws};
+ghost use Rattle.ft_job_text.specs.Runs.{RunsPlan};
+ghost use Rattle.ft_run.specs.FaultLines.{TellsLine, after_line, save_line, stopped_line};
+ghost use Rattle.ft_script.specs.Runs.{AnswersFreely, WritesFront};
 ghost use Rattle.ft_core.specs.Living.{NoneIsLive};
-ghost use Rattle.ft_core.specs.States.{State};
-ghost use Rattle.ft_load.specs.Loads.{Loads, StopsLoad};
-ghost use Rattle.ft_save.specs.Saves.{IsLeft, Saves, StopsSave};
+ghost use Rattle.ft_load.specs.Loads.{Loads};
+ghost use Rattle.ft_save.specs.Saves.{IsLeft, Saves};
+ghost use Rattle.ft_run.specs.Statuses.{PlaysToEnd, FailsToPlay, FailsToDraw, FailsToRun, FailsToLoad, FailsToSave};
 
 use crate::faults::{fault_line, run_fault_line, trouble_name};
 use ft_copy::{CopyLimits, CopyStop, Source, Target};
@@ -39,13 +39,10 @@ pub fn play_status<R: Read, W: Write, E: Write>(
 ) -> u8
     ensures status { (result ≡ 0) ⊎ (result ≡ 1) }
     ensures quiet { result ≡ 0 → Keeps (E.contents errors.old) (E.contents errors.new) }
-    ensures ok { result ≡ 0 → (new : State)
-        × PlaysAll AnswersFreely (R.remaining reader.old) (R.remaining reader.new)
-        (W.contents writer.old) (W.contents writer.new) core.state new }
-    ensures fault { result ≡ 1 → (fault : PlayFault) × (new : State)
-        × StopsAt AnswersFreely fault (R.remaining reader.old) (R.remaining reader.new)
-        (W.contents writer.old) (W.contents writer.new) core.state new
-        × WritesFront (E.contents errors.old) (E.contents errors.new) (fault_line fault) }
+    ensures ok { result ≡ 0 → PlaysToEnd AnswersFreely R.remaining W.contents
+        reader.old reader.new writer.old writer.new core.state }
+    ensures fault { result ≡ 1 → FailsToPlay AnswersFreely R.remaining W.contents E.contents
+        reader.old reader.new writer.old writer.new errors.old errors.new core.state }
 {
     let mut core = core;
     match play(alloc, reader, writer, &mut core) {
@@ -67,9 +64,8 @@ pub fn dot_status<R: Read, W: Write, E: Write>(
     ensures quiet { result ≡ 0 → Keeps (E.contents errors.old) (E.contents errors.new) }
     ensures ok { result ≡ 0 → Draws (R.remaining reader.old) (R.remaining reader.new)
         (W.contents writer.old) (W.contents writer.new) }
-    ensures fault { result ≡ 1 → (fault : PlayFault) × StopsDrawing fault (R.remaining reader.old)
-        (R.remaining reader.new) (W.contents writer.old) (W.contents writer.new)
-        × WritesFront (E.contents errors.old) (E.contents errors.new) (fault_line fault) }
+    ensures fault { result ≡ 1 → FailsToDraw R.remaining W.contents E.contents
+        reader.old reader.new writer.old writer.new errors.old errors.new }
 {
     match draw(alloc, reader, writer) {
         Ok(()) => 0,
@@ -99,9 +95,8 @@ pub fn jobs_status<R: Threads + Wait + Clock + Sync, S: Write + Send + Drop, W: 
         (W.contents writer.new) }
     ensures unmet { result ≡ 3
         → RunsPlan false core.state plan.now (W.contents writer.old) (W.contents writer.new) }
-    ensures fault { result ≡ 1 → (fault : RunFault)
-        × StopsPlan fault core.state plan.now (W.contents writer.old) (W.contents writer.new)
-        × WritesFront (E.contents errors.old) (E.contents errors.new) (run_fault_line fault) }
+    ensures fault { result ≡ 1 → FailsToRun core.state plan.now W.contents E.contents
+        writer.old writer.new errors.old errors.new }
 {
     match run_plan(rt, alloc, core, plan, pace, screen, writer) {
         Ok(is_met) if is_met => 0,
@@ -154,10 +149,8 @@ pub fn load_status<R: Clock, S: Source, V: Write + Drop, W: Write, E: Write>(
     ensures quiet { result.1 ≡ 0 → Keeps (E.contents errors.old) (E.contents errors.new) }
     ensures ok { result.1 ≡ 0
         → Loads limits set_id (S.tells source.now) (W.contents writer) (W.contents result.0) }
-    ensures fault { result.1 ≡ 1 → (stopped : CopyStop)
-        × StopsLoad limits set_id (S.tells source.now) stopped (W.contents writer)
-        (W.contents result.0)
-        × TellsLine (E.contents errors.old) (E.contents errors.new) (stopped_line stopped) }
+    ensures fault { result.1 ≡ 1 → FailsToLoad limits set_id (S.tells source.now)
+        W.contents E.contents writer result.0 errors.old errors.new }
 {
     let shown = ShownSource::new(rt, alloc, source, screen);
     let (writer, loaded) = load(alloc, limits, set_id, &shown, writer);
@@ -184,10 +177,8 @@ pub fn save_status<R: Read, T: Target, E: Write>(
     ensures ok { result ≡ 0 → Saves limits (R.remaining reader.old) (R.remaining reader.new) T.does
         target.old target.new }
     ensures left { result ≡ 1 → IsLeft T.does T.fails target.old target.new }
-    ensures fault { result ≡ 1 → (fault : SaveFault)
-        × StopsSave limits T.does T.fails fault (R.remaining reader.old) (R.remaining reader.new)
-        target.old target.new
-        × TellsLine (E.contents errors.old) (E.contents errors.new) (save_line fault) }
+    ensures fault { result ≡ 1 → FailsToSave limits T.does T.fails R.remaining E.contents
+        reader.old reader.new target.old target.new errors.old errors.new }
 {
     match save(alloc, limits, reader, target) {
         Ok(()) => 0,

@@ -1,12 +1,9 @@
 // The status that a strict script ends with.
 ghost use Rattle.std.specs.Prelude.{◌≡◌, ◌⊎◌, IfOk};
 ghost use Rattle.std.specs.Io.KnownBytes.{Keeps};
-ghost use Rattle.ft_core.specs.States.{State};
-ghost use Rattle.ft_script.specs.Runs.{PlaysAll, StopsAt, StopsStrictly, WritesFront};
-ghost use Rattle.ft_script.specs.declared.strictly.FailedLine.{FailedLine as Failed};
-ghost use Rattle.ft_script.specs.declared.strictly.StrictFault.TheVariants.{Line};
-ghost use Rattle.ft_run.specs.FaultLines.{TellsLine, fault_line, shown_of, strict_line};
+ghost use Rattle.ft_run.specs.FaultLines.{TellsLine, shown_of, strict_line};
 ghost use Rattle.ft_strict.specs.Strict.{AnswersStrictly};
+ghost use Rattle.ft_run.specs.Statuses.{PlaysToEnd, FailsToPlay, FailsAtLine};
 
 use crate::faults::fault_line;
 use crate::status::report_fault;
@@ -30,17 +27,12 @@ pub fn play_strictly_status<R: Read, W: Write, E: Write>(
 ) -> u8
     ensures status { (result ≡ 0) ⊎ (result ≡ 1) ⊎ (result ≡ 3) }
     ensures quiet { result ≡ 0 → Keeps (E.contents errors.old) (E.contents errors.new) }
-    ensures ok { result ≡ 0 → (new : State)
-        × PlaysAll AnswersStrictly (R.remaining reader.old) (R.remaining reader.new)
-        (W.contents writer.old) (W.contents writer.new) core.state new }
-    ensures fault { result ≡ 1 → (fault : PlayFault) × (new : State)
-        × StopsAt AnswersStrictly fault (R.remaining reader.old) (R.remaining reader.new)
-        (W.contents writer.old) (W.contents writer.new) core.state new
-        × WritesFront (E.contents errors.old) (E.contents errors.new) (fault_line fault) }
-    ensures failed { result ≡ 3 → (failed : Failed) × (new : State)
-        × StopsStrictly (Line failed) (R.remaining reader.old) (R.remaining reader.new)
-        (W.contents writer.old) (W.contents writer.new) core.state new
-        × TellsLine (E.contents errors.old) (E.contents errors.new) (strict_line failed) }
+    ensures ok { result ≡ 0 → PlaysToEnd AnswersStrictly R.remaining W.contents
+        reader.old reader.new writer.old writer.new core.state }
+    ensures fault { result ≡ 1 → FailsToPlay AnswersStrictly R.remaining W.contents E.contents
+        reader.old reader.new writer.old writer.new errors.old errors.new core.state }
+    ensures failed { result ≡ 3 → FailsAtLine R.remaining W.contents E.contents
+        reader.old reader.new writer.old writer.new errors.old errors.new core.state }
 {
     let mut core = core;
     match play_strictly(alloc, reader, writer, &mut core) {

@@ -1,15 +1,17 @@
 -- The replies that are gathered between two writes: lines are cut from bytes that were read, and
 -- carried out one after another.
-use Rattle.std.specs.Prelude.{◌≡◌, ◌⊎◌, ◌+◌, ◌<◌, ℕ, suc, Bool, true, false, List, [], ◌∷◌, ◌++◌, length, Option, string_bytes}
+use Rattle.std.specs.Prelude.{◌≡◌, ◌⊎◌, ◌+◌, ◌<◌, ℕ, suc, Bool, true, false, List, [], ◌∷◌, ◌++◌, length, Option, String, MatchOption, string_bytes}
 use Rattle.std.specs.Io.KnownBytes.{Appends}
-use Rattle.ft_core.specs.States.{State}
+use Rattle.ft_core.specs.States.{State, StoredState}
+use Rattle.ft_script.specs.declared.gathering.Script.{Script}
 use Rattle.ft_script.specs.declared.gathering.TheConstants.{MOST_GATHERED}
+use Rattle.ft_script.specs.declared.lines.ScriptLines.{ScriptLines}
 use Rattle.ft_script.specs.declared.playing.PlayFault.{PlayFault}
 use Rattle.ft_script.specs.declared.playing.PlayFault.TheVariants.{Memory, Read, Write, TooLong, Turns}
 use Rattle.ft_script.specs.declared.strictly.StrictFault.{StrictFault}
 use Rattle.ft_script.specs.declared.strictly.StrictFault.TheVariants.{Play, Line}
 use Rattle.ft_script.specs.Cutting.{BeginsTooLong, Cuts, Fits}
-use Rattle.ft_script.specs.Reading.{GivesLine}
+use Rattle.ft_script.specs.Reading.{GivesLine, cut_count, cut_line, uncut}
 use Rattle.ft_script.specs.Runs.{Answers, IsTextOfRun, MayAnswer, StopsLine}
 use Rattle.ft_strict.specs.Strict.{AnswersStrictly}
 
@@ -61,3 +63,34 @@ abbrev pub StopsLastStrictly : StrictFault → ℕ → List ℕ → Option (List
 StopsLastStrictly (Play fault) count line before after old new = StopsLine AnswersStrictly fault line before after old new
 StopsLastStrictly (Line failed) count line before after old new =
     AnswersStrictly false old line (string_bytes failed.reply) new × Appends before after (string_bytes failed.reply) × (failed.number ≡ count) × (failed.line.items ≡ line)
+
+-- ---- of a script, with its replies that are not written yet, and of a core
+
+-- Lines were carried out so, and their replies are gathered.
+abbrev pub GathersFrom : Answers → Script → Script → StoredState → StoredState → Type 0
+GathersFrom answers script script_after old new =
+    Gathers answers (uncut script.lines) (uncut script_after.lines) (cut_count script.lines) (cut_count script_after.lines) script_after.replies.items old.state new.state
+
+-- So they were by a strict script, and the run goes on; or it ends at the line with this reply.
+abbrev pub GathersStrictly : {A : Type 0} → Option (String A) → Script → Script → StoredState → StoredState → Type 0
+GathersStrictly failed script script_after old new =
+    MatchOption failed (GathersFrom AnswersStrictly script script_after old new)
+    (λ reply. FailsGathering (uncut script.lines) (cut_count script.lines) (cut_count script_after.lines) (cut_line script_after.lines) (string_bytes reply) script_after.replies.items old.state new.state)
+
+-- So they were up to a fault.
+abbrev pub StopsGatheringFrom : Answers → PlayFault → Script → Script → StoredState → StoredState → Type 0
+StopsGatheringFrom answers fault script script_after old new = StopsGathering answers fault (uncut script.lines) script_after.replies.items old.state new.state
+
+-- ---- of a writer, by what it holds, and of a core
+
+-- A line was carried out, the run goes on after it, and its reply was written.
+abbrev pub WritesReply : {W : Type 0} → Answers → List ℕ → (W → Option (List ℕ)) → W → W → StoredState → StoredState → Type 0
+WritesReply answers line held writer writer_after old new = (text : List ℕ) × answers true old.state line text new.state × Appends (held writer) (held writer_after) text
+
+-- A fault came at a line whose reply was to be written alone.
+abbrev pub StopsReply : {W : Type 0} → Answers → PlayFault → List ℕ → (W → Option (List ℕ)) → W → W → StoredState → StoredState → Type 0
+StopsReply answers fault line held writer writer_after old new = StopsLine answers fault line (held writer) (held writer_after) old.state new.state
+
+-- A fault came at the last line of a strict script, which was cut from these.
+abbrev pub StopsLastReply : {W : Type 0} → StrictFault → ScriptLines → (W → Option (List ℕ)) → W → W → StoredState → StoredState → Type 0
+StopsLastReply fault lines held writer writer_after old new = StopsLastStrictly fault (cut_count lines) (cut_line lines) (held writer) (held writer_after) old.state new.state

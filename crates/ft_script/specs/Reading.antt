@@ -1,5 +1,5 @@
 -- How a script is cut into lines while it is read. `left` is what the reader has left.
-use Rattle.std.specs.Prelude.{◌≡◌, ◌⊎◌, ◌+◌, ◌*◌, ◌-◌, ◌<◌, ◌≤◌, ℕ, Bool, if◌then◌else◌, List, [], ◌∷◌, ◌++◌, take, drop, Option}
+use Rattle.std.specs.Prelude.{◌≡◌, ◌⊎◌, ◌+◌, ◌*◌, ◌-◌, ◌<◌, ◌≤◌, ℕ, Bool, if◌then◌else◌, List, [], ◌∷◌, ◌++◌, length, take, drop, Option}
 use Rattle.std.specs.Io.KnownBytes.{Consumes}
 use Rattle.ft_script.specs.declared.lines.TheConstants.{CHUNK}
 use Rattle.ft_script.specs.declared.lines.ScriptLines.{ScriptLines}
@@ -55,3 +55,15 @@ StopsCutting Write bytes = ⊥
 -- Why no line could be cut from what was not cut and what was read.
 abbrev pub StopsReading : PlayFault → Option (List ℕ) → Option (List ℕ) → List ℕ → Type 0
 StopsReading fault left left_after uncut = (read : List ℕ) × Consumes left left_after read × StopsCutting fault (uncut ++ read)
+
+-- What was read comes after what was not cut.
+abbrev pub ReadsOn : Option (List ℕ) → Option (List ℕ) → List ℕ → List ℕ → Type 0
+ReadsOn left left_after uncut uncut_after = (read : List ℕ) × Consumes left left_after read × (uncut_after ≡ uncut ++ read)
+
+-- No line was cut, and all that was read is in the line that has begun.
+abbrev pub CutsNothing : ScriptLines → ScriptLines → Type 0
+CutsNothing old new = (uncut new ≡ uncut old) × (cut_count new ≡ cut_count old) × (unscanned new ≡ 0)
+
+-- What was not cut is a line, which has a byte and no line feed.
+abbrev pub IsLastLine : List ℕ → List ℕ → Type 0
+IsLastLine uncut line = (uncut ≡ line) × (0 < length line) × IsFreeOf 10 line × Fits line

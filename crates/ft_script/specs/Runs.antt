@@ -6,7 +6,7 @@
 use Rattle.std.specs.Prelude.{◌≡◌, ◌⊎◌, ◌<◌, ℕ, suc, Bool, true, false, List, [], ◌∷◌, ◌++◌, length, Option, string_bytes}
 use Rattle.std.specs.List.{AllByRecursion}
 use Rattle.std.specs.Io.KnownBytes.{Appends, Consumes, IsAtEnd, Keeps}
-use Rattle.ft_core.specs.States.{State}
+use Rattle.ft_core.specs.States.{State, StoredState}
 use Rattle.ft_script.specs.declared.gathering.TheConstants.{MOST_GATHERED}
 use Rattle.ft_script.specs.declared.playing.PlayFault.{PlayFault}
 use Rattle.ft_script.specs.declared.playing.PlayFault.TheVariants.{Memory, Read, Write, TooLong, Turns}
@@ -140,3 +140,21 @@ abbrev pub StopsStrictly : StrictFault → Option (List ℕ) → Option (List �
 StopsStrictly (Play fault) left left_after held held_after old new = StopsAt AnswersStrictly fault left left_after held held_after old new
 StopsStrictly (Line failed) left left_after held held_after old new =
     (bytes : List ℕ) × Consumes left left_after bytes × Stopped AnswersStrictly (FailsIn failed (IsAtEnd left_after)) bytes held held_after old new
+
+-- ---- the same of a reader, by what it has left, of a writer, by what it holds, and of a core
+
+-- A script was read to its end, and each of its lines was taken and answered freely.
+abbrev pub PlaysFreely : {R W : Type 0} → (R → Option (List ℕ)) → (W → Option (List ℕ)) → R → R → W → W → StoredState → StoredState → Type 0
+PlaysFreely left held reader reader_after writer writer_after old new = PlaysAll AnswersFreely (left reader) (left reader_after) (held writer) (held writer_after) old.state new.state
+
+-- A strict script was, and each of its lines did what it requests, or may fail.
+abbrev pub PlaysStrictly : {R W : Type 0} → (R → Option (List ℕ)) → (W → Option (List ℕ)) → R → R → W → W → StoredState → StoredState → Type 0
+PlaysStrictly left held reader reader_after writer writer_after old new = PlaysAll AnswersStrictly (left reader) (left reader_after) (held writer) (held writer_after) old.state new.state
+
+-- A script was read, and run up to this fault.
+abbrev pub StopsFreePlay : {R W : Type 0} → (R → Option (List ℕ)) → (W → Option (List ℕ)) → R → R → W → W → StoredState → StoredState → PlayFault → Type 0
+StopsFreePlay left held reader reader_after writer writer_after old new fault = StopsAt AnswersFreely fault (left reader) (left reader_after) (held writer) (held writer_after) old.state new.state
+
+-- A strict script was.
+abbrev pub StopsStrictPlay : {R W : Type 0} → (R → Option (List ℕ)) → (W → Option (List ℕ)) → R → R → W → W → StoredState → StoredState → StrictFault → Type 0
+StopsStrictPlay left held reader reader_after writer writer_after old new fault = StopsStrictly fault (left reader) (left reader_after) (held writer) (held writer_after) old.state new.state

@@ -1,8 +1,8 @@
 // Replies that are gathered, to be written at once.
-ghost use Rattle.std.specs.Prelude.{◌≡◌, ◌<◌, ◌≤◌, ◌++◌, ℕ, List, [], false, length, true, IfErr, IfOk, OnErr, OnOk};
-ghost use Rattle.std.specs.Io.KnownBytes.{Appends, Consumes, IsAtEnd};
+ghost use Rattle.std.specs.Prelude.{◌≡◌, ◌<◌, ◌≤◌, ◌++◌, [], false, length, true, IfErr, IfOk, OnErr, OnOk};
+ghost use Rattle.std.specs.Io.KnownBytes.{Appends, IsAtEnd};
 ghost use Rattle.ft_script.specs.declared.gathering.TheConstants.{MOST_GATHERED};
-ghost use Rattle.ft_script.specs.Reading.{HasRoom, StopsReading, cut_count, to_read, uncut, unscanned};
+ghost use Rattle.ft_script.specs.Reading.{HasRoom, StopsReading, cut_count, to_read, uncut, unscanned, ReadsOn};
 ghost use Rattle.ft_script.specs.Runs.{WritesPart};
 
 use crate::lines::ScriptLines;
@@ -39,9 +39,8 @@ impl Script {
     /// are written. Returns whether there is something to cut; if not, the script has ended.
     pub(crate) fn read_more<R: Read>(&mut self, reader: &mut R) -> Result<bool, PlayFault>
         requires written { self.old.replies.items ≡ [] }
-        ensures bytes { OnOk result ((read : List ℕ)
-            × Consumes (R.remaining reader.old) (R.remaining reader.new) read
-            × (uncut self.new.lines ≡ uncut self.old.lines ++ read)) }
+        ensures bytes { OnOk result (ReadsOn (R.remaining reader.old) (R.remaining reader.new)
+            (uncut self.old.lines) (uncut self.new.lines)) }
         ensures more { IfOk result
             (λ more. more ≡ true → (0 < unscanned self.new.lines)
             × (to_read self.new.lines ≤ to_read self.old.lines)) }

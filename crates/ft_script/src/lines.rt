@@ -1,5 +1,5 @@
 // The lines of a script, as a reader gives them.
-ghost use Rattle.std.specs.Prelude.{◌≡◌, ◌⊎◌, ◌↔◌, ℕ, List, ◌+◌, ◌*◌, ◌<◌, ◌≤◌, ◌++◌, ◌∷◌, [], false, length, take, true, vec_len, if◌then◌else◌, IfErr, IfOk, IsErrOf, OnErr, OnOk};
+ghost use Rattle.std.specs.Prelude.{◌≡◌, ◌⊎◌, ◌↔◌, ◌+◌, ◌*◌, ◌<◌, ◌≤◌, ◌++◌, ◌∷◌, [], false, length, take, true, vec_len, if◌then◌else◌, IfErr, IfOk, IsErrOf, OnErr, OnOk};
 ghost use Rattle.std.specs.Io.{ReadsAtMost};
 ghost use Rattle.std.specs.Io.KnownBytes.{Consumes, IsAtEnd, Keeps};
 ghost use Rattle.ft_words.specs.Spelling.{IsFreeOf};
@@ -42,7 +42,7 @@ pub(crate) struct ScriptLines {
 }
 
 impl ScriptLines {
-    ghost use Rattle.ft_script.specs.Reading.{GivesLine, HasRoom, StopsCutting, StopsReading, begun, cut_count, cut_line, to_read, unscanned, uncut};
+    ghost use Rattle.ft_script.specs.Reading.{CutsNothing, GivesLine, HasRoom, IsLastLine, ReadsOn, StopsCutting, StopsReading, begun, cut_count, cut_line, to_read, unscanned, uncut};
 
     /// Nothing is read yet.
     pub(crate) fn new(alloc: Global) -> Result<ScriptLines, Memory>
@@ -84,9 +84,8 @@ impl ScriptLines {
     /// Reads more, if all that was read is in lines that have ended. Returns whether there is
     /// something to cut; if not, the script has ended.
     pub(crate) fn read_more<R: Read>(&mut self, reader: &mut R) -> Result<bool, PlayFault>
-        ensures bytes { OnOk result ((read : List ℕ)
-            × Consumes (R.remaining reader.old) (R.remaining reader.new) read
-            × (uncut self.new ≡ uncut self.old ++ read)) }
+        ensures bytes { OnOk result (ReadsOn (R.remaining reader.old) (R.remaining reader.new)
+            (uncut self.old) (uncut self.new)) }
         ensures more { IfOk result
             (λ more. more ≡ true → (0 < unscanned self.new)
             × (to_read self.new ≤ to_read self.old)) }
@@ -114,8 +113,7 @@ impl ScriptLines {
         ensures count { IfOk result
             (λ found. found ≡ true → cut_count self.new ≡ cut_count self.old + 1) }
         ensures none { IfOk result
-            (λ found. found ≡ false → (uncut self.new ≡ uncut self.old)
-            × (cut_count self.new ≡ cut_count self.old) × (unscanned self.new ≡ 0)) }
+            (λ found. found ≡ false → CutsNothing self.old self.new) }
         ensures scanned { IfOk result
             (λ found. found ≡ true → unscanned self.new < unscanned self.old) }
         ensures reads { self.new.reads_left ≡ self.old.reads_left }
@@ -145,9 +143,7 @@ impl ScriptLines {
     /// Cuts the last line, which has no line feed, if it has a byte. Returns whether it has.
     pub(crate) fn cut_last(&mut self) -> bool
         requires { HasRoom self.old }
-        ensures some { result ≡ true → (uncut self.old ≡ cut_line self.new)
-            × (0 < length (cut_line self.new)) × IsFreeOf 10 (cut_line self.new)
-            × Fits (cut_line self.new) }
+        ensures some { result ≡ true → IsLastLine (uncut self.old) (cut_line self.new) }
         ensures count { result ≡ true → cut_count self.new ≡ cut_count self.old + 1 }
         ensures none { result ≡ false → uncut self.old ≡ [] }
     {

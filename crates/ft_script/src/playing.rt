@@ -1,9 +1,8 @@
 // Runs a script: reads lines, carries them out, and writes the replies.
-ghost use Rattle.std.specs.Prelude.{◌≡◌, ◌<◌, ℕ, List, [], true, IfErr, OnOk};
-ghost use Rattle.std.specs.Io.KnownBytes.{Appends};
-ghost use Rattle.ft_script.specs.Gathering.{Gathers, StopsGathering};
-ghost use Rattle.ft_script.specs.Reading.{cut_count, to_read, uncut, unscanned};
-ghost use Rattle.ft_script.specs.Runs.{AnswersFreely, PlaysAll, StopsAt, StopsLine};
+ghost use Rattle.std.specs.Prelude.{◌≡◌, ◌<◌, [], IfErr, OnOk};
+ghost use Rattle.ft_script.specs.Gathering.{GathersFrom, StopsGatheringFrom, WritesReply, StopsReply};
+ghost use Rattle.ft_script.specs.Reading.{to_read, unscanned};
+ghost use Rattle.ft_script.specs.Runs.{AnswersFreely, PlaysFreely, StopsFreePlay};
 
 use crate::gathering::Script;
 use crate::writing::write_out;
@@ -87,12 +86,10 @@ pub fn play<R: Read, W: Write>(
     writer: &mut W,
     core: &mut Core,
 ) -> Result<(), PlayFault>
-    ensures ok { OnOk result
-        (PlaysAll AnswersFreely (R.remaining reader.old) (R.remaining reader.new)
-        (W.contents writer.old) (W.contents writer.new) core.old.state core.new.state) }
-    ensures fault { IfErr result (λ fault. StopsAt AnswersFreely fault (R.remaining reader.old)
-        (R.remaining reader.new) (W.contents writer.old) (W.contents writer.new) core.old.state
-        core.new.state) }
+    ensures ok { OnOk result (PlaysFreely R.remaining W.contents reader.old reader.new
+        writer.old writer.new core.old core.new) }
+    ensures fault { IfErr result (StopsFreePlay R.remaining W.contents reader.old reader.new
+        writer.old writer.new core.old core.new) }
 {
     let mut script = Script::new(alloc)?;
     while script.read_more(reader)? {
@@ -110,12 +107,9 @@ pub fn play<R: Read, W: Write>(
 fn answer_lines(alloc: Global, script: &mut Script, core: &mut Core) -> Result<(), PlayFault>
     requires { script.old.replies.items ≡ [] }
     ensures ok { OnOk result
-        (Gathers AnswersFreely (uncut script.old.lines) (uncut script.new.lines)
-        (cut_count script.old.lines) (cut_count script.new.lines) script.new.replies.items
-        core.old.state core.new.state) }
+        (GathersFrom AnswersFreely script.old script.new core.old core.new) }
     ensures fault { IfErr result
-        (λ fault. StopsGathering AnswersFreely fault (uncut script.old.lines)
-        script.new.replies.items core.old.state core.new.state) }
+        (λ fault. StopsGatheringFrom AnswersFreely fault script.old script.new core.old core.new) }
     ensures less { OnOk result (0 < unscanned script.old.lines
         → to_read script.new.lines < to_read script.old.lines) }
 {
@@ -134,12 +128,10 @@ fn play_last<W: Write>(
     writer: &mut W,
     core: &mut Core,
 ) -> Result<(), PlayFault>
-    ensures ok { OnOk result ((text : List ℕ)
-        × AnswersFreely true core.old.state line.now text core.new.state
-        × Appends (W.contents writer.old) (W.contents writer.new) text) }
-    ensures fault { IfErr result
-        (λ fault. StopsLine AnswersFreely fault line.now (W.contents writer.old)
-        (W.contents writer.new) core.old.state core.new.state) }
+    ensures ok { OnOk result (WritesReply AnswersFreely line.now W.contents writer.old writer.new
+        core.old core.new) }
+    ensures fault { IfErr result (λ fault. StopsReply AnswersFreely fault line.now
+        W.contents writer.old writer.new core.old core.new) }
 {
     let reply = reply_to(alloc, line, core)?;
     write_out(writer, reply.as_bytes())

@@ -1,9 +1,8 @@
 // Runs a strict script: each line must do what it requests.
-ghost use Rattle.std.specs.Prelude.{◌≡◌, ◌<◌, ℕ, List, [], true, string_bytes, IfErr, IfOk, MatchOption, OnOk};
-ghost use Rattle.std.specs.Io.KnownBytes.{Appends};
-ghost use Rattle.ft_script.specs.Gathering.{FailsGathering, Gathers, StopsGathering, StopsLastStrictly};
-ghost use Rattle.ft_script.specs.Reading.{cut_count, cut_line, to_read, uncut, unscanned};
-ghost use Rattle.ft_script.specs.Runs.{PlaysAll, StopsStrictly};
+ghost use Rattle.std.specs.Prelude.{◌≡◌, ◌<◌, [], IfErr, IfOk, OnOk};
+ghost use Rattle.ft_script.specs.Gathering.{GathersStrictly, StopsGatheringFrom, WritesReply, StopsLastReply};
+ghost use Rattle.ft_script.specs.Reading.{cut_line, to_read, unscanned};
+ghost use Rattle.ft_script.specs.Runs.{PlaysStrictly, StopsStrictPlay};
 ghost use Rattle.ft_strict.specs.Strict.{AnswersStrictly};
 
 use crate::gathering::Script;
@@ -73,12 +72,10 @@ pub fn play_strictly<R: Read, W: Write>(
     writer: &mut W,
     core: &mut Core,
 ) -> Result<(), StrictFault>
-    ensures ok { OnOk result
-        (PlaysAll AnswersStrictly (R.remaining reader.old) (R.remaining reader.new)
-        (W.contents writer.old) (W.contents writer.new) core.old.state core.new.state) }
-    ensures fault { IfErr result (λ fault. StopsStrictly fault (R.remaining reader.old)
-        (R.remaining reader.new) (W.contents writer.old) (W.contents writer.new) core.old.state
-        core.new.state) }
+    ensures ok { OnOk result (PlaysStrictly R.remaining W.contents reader.old reader.new
+        writer.old writer.new core.old core.new) }
+    ensures fault { IfErr result (StopsStrictPlay R.remaining W.contents reader.old reader.new
+        writer.old writer.new core.old core.new) }
 {
     let mut script = Script::new(alloc)?;
     while script.read_more(reader)? {
@@ -106,16 +103,10 @@ fn answer_strictly(
     core: &mut Core,
 ) -> Result<Option<String>, PlayFault>
     requires { script.old.replies.items ≡ [] }
-    ensures ok { IfOk result (λ failed. MatchOption failed
-        (Gathers AnswersStrictly (uncut script.old.lines) (uncut script.new.lines)
-        (cut_count script.old.lines) (cut_count script.new.lines) script.new.replies.items
-        core.old.state core.new.state)
-        (λ reply. FailsGathering (uncut script.old.lines) (cut_count script.old.lines)
-        (cut_count script.new.lines) (cut_line script.new.lines) (string_bytes reply)
-        script.new.replies.items core.old.state core.new.state)) }
-    ensures fault { IfErr result
-        (λ fault. StopsGathering AnswersStrictly fault (uncut script.old.lines)
-        script.new.replies.items core.old.state core.new.state) }
+    ensures ok { IfOk result
+        (λ failed. GathersStrictly failed script.old script.new core.old core.new) }
+    ensures fault { IfErr result (λ fault. StopsGatheringFrom AnswersStrictly fault script.old
+        script.new core.old core.new) }
     ensures less { OnOk result (0 < unscanned script.old.lines
         → to_read script.new.lines < to_read script.old.lines) }
 {
@@ -136,12 +127,10 @@ fn play_last_strictly<W: Write>(
     writer: &mut W,
     core: &mut Core,
 ) -> Result<(), StrictFault>
-    ensures ok { OnOk result ((text : List ℕ)
-        × AnswersStrictly true core.old.state (cut_line lines) text core.new.state
-        × Appends (W.contents writer.old) (W.contents writer.new) text) }
+    ensures ok { OnOk result (WritesReply AnswersStrictly (cut_line lines)
+        W.contents writer.old writer.new core.old core.new) }
     ensures fault { IfErr result
-        (λ fault. StopsLastStrictly fault (cut_count lines) (cut_line lines) (W.contents writer.old)
-        (W.contents writer.new) core.old.state core.new.state) }
+        (λ fault. StopsLastReply fault lines W.contents writer.old writer.new core.old core.new) }
 {
     let reply = strict_reply_to(alloc, lines.line(), core)?;
     write_out(writer, reply.text.as_bytes())?;

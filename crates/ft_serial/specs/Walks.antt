@@ -1,5 +1,5 @@
 -- The state of a walk along the events of a core, inside the crate.
-use Rattle.std.specs.Prelude.{◌≡◌, ◌<◌, ◌+◌, ℕ, Bool, true, false, not, cond, ◌&&◌, List, [], ◌∷◌, ◌++◌, Option, Some, None, Result, Ok, Err, map, length, reverse, take}
+use Rattle.std.specs.Prelude.{◌≡◌, ◌<◌, ◌+◌, ℕ, Bool, true, false, not, cond, ◌&&◌, List, [], ◌∷◌, ◌++◌, Option, Some, None, Result, Ok, Err, map, length, reverse, take, drop}
 use Rattle.std.specs.Ordering.{nat_cmp}
 use Rattle.std.specs.FinMap as finite
 use Rattle.ft_base.specs.declared.memory.Memory.{Memory}
@@ -113,3 +113,23 @@ abbrev pub IsNext : ℕ → Walk → State → List StampedCall → Result (Opti
 IsNext forgotten walk s given (Ok (Some call)) = IsWalkOf forgotten walk s (given ++ call ∷ [])
 IsNext forgotten walk s given (Ok None) = IsWalk forgotten walk s.events given × (given ≡ committed_in s.events)
 IsNext forgotten walk s given (Err memory) = IsWalkOf forgotten walk s given
+
+-- What becomes of a walk, whichever calls it has given out, and however many events are not counted
+-- any more.
+
+-- These are the events that are counted, and the walk gives out the next committed call, or all
+-- were.
+abbrev pub GivesNext : Walk → Walk → State → List Event → Result (Option StampedCall) Memory → Type 0
+GivesNext old new s events result = (given : List StampedCall) (n : ℕ) → events ≡ drop n s.events → IsWalkOf n old s given → IsNext n new s given result
+
+-- It gives out the next call of the transaction that committed last, if there is one.
+abbrev pub TakesNext : Walk → Walk → State → Option StampedCall → Type 0
+TakesNext old new s next = (given : List StampedCall) (n : ℕ) → IsWalkOf n old s given → IsTaken n new s given next
+
+-- These are the events that are counted, and the walk goes over one more, and gives out no call.
+abbrev pub PassesEvent : Walk → Walk → State → List Event → Type 0
+PassesEvent old new s events = (given : List StampedCall) (n : ℕ) → events ≡ drop n s.events → IsWalkOf n old s given → old.closing.items ≡ [] → IsWalkOf n new s given
+
+-- It has gone over the same events, and given the same calls out.
+abbrev pub KeepsPlace : Walk → Walk → State → Type 0
+KeepsPlace old new s = (given : List StampedCall) (n : ℕ) → IsWalkOf n old s given → IsWalkOf n new s given

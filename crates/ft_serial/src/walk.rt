@@ -1,10 +1,9 @@
 // A walk along the events of a core that gives the committed calls out.
-ghost use Rattle.std.specs.Prelude.{◌≡◌, ◌<◌, ◌+◌, [], ℕ, List, drop, length, OnOk, OnErr};
+ghost use Rattle.std.specs.Prelude.{◌≡◌, ◌<◌, ◌+◌, [], length, OnOk, OnErr};
 ghost use Rattle.std.specs.FinMap as finite;
-ghost use Rattle.ft_posix.specs.declared.stamped.StampedCall.{StampedCall as CallValue};
 ghost use Rattle.ft_core.specs.States.{history};
 ghost use Rattle.ft_core.specs.Reached.{IsReached};
-ghost use Rattle.ft_serial.specs.Walks.{stands as stands_in, IsWalk, IsWalkOf, IsTaken, IsNext};
+ghost use Rattle.ft_serial.specs.Walks.{stands as stands_in, IsWalk, GivesNext, TakesNext, PassesEvent, KeepsPlace};
 
 use crate::asked::{Asked, forget_all, push_call};
 use crate::top_level::find_top;
@@ -51,9 +50,7 @@ impl Walk {
         core: &Core,
         events: &[Event],
     ) -> Result<Option<StampedCall>, Memory>
-        ensures next { (given : List CallValue) (n : ℕ) → events.now ≡ drop n core.now.state.events
-            → IsWalkOf n self.old core.now.state given
-            → IsNext n self.new core.now.state given result }
+        ensures next { GivesNext self.old self.new core.now.state events.now result }
         ensures reached { IsReached core.now }
     {
         reached(core);
@@ -72,8 +69,7 @@ impl Walk {
     /// memory.
     fn take_closing(&mut self, core: &Core) -> Option<StampedCall>
         requires { IsReached core.now }
-        ensures taken { (given : List CallValue) (n : ℕ) → IsWalkOf n self.old core.now.state given
-            → IsTaken n self.new core.now.state given result }
+        ensures taken { TakesNext self.old self.new core.now.state result }
         ensures passed { self.new.passed ≡ self.old.passed }
     {
         while let Some(asked) = self.closing.pop() {
@@ -91,12 +87,9 @@ impl Walk {
     fn pass(&mut self, core: &Core, events: &[Event]) -> Result<(), Memory>
         requires reached { IsReached core.now }
         requires next { self.old.passed < length events.now }
-        ensures ok { OnOk result ((given : List CallValue) (n : ℕ)
-            → events.now ≡ drop n core.now.state.events → IsWalkOf n self.old core.now.state given
-            → self.old.closing.items ≡ [] → IsWalkOf n self.new core.now.state given) }
+        ensures ok { OnOk result (PassesEvent self.old self.new core.now.state events.now) }
         ensures passed { OnOk result (self.new.passed ≡ self.old.passed + 1) }
-        ensures err { OnErr result ((given : List CallValue) (n : ℕ)
-            → IsWalkOf n self.old core.now.state given → IsWalkOf n self.new core.now.state given) }
+        ensures err { OnErr result (KeepsPlace self.old self.new core.now.state) }
     {
         match &events[self.passed] {
             Event::Call {

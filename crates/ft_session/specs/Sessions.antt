@@ -14,6 +14,10 @@ use Rattle.ft_session.specs.Turns.{IsFairly}
 abbrev pub KeepsTurns : Session → Session → Type 0
 KeepsTurns old new = (new.is_fair ≡ old.is_fair) × (new.turns.items ≡ old.turns.items)
 
+-- the request is carried out in turn, on the state and the turns of the session
+abbrev pub StepsFairly : Session → Request → Answer → Session → Type 0
+StepsFairly old request answer new = IsFairly old.core.state old.turns.items request answer new.core.state new.turns.items
+
 -- The core made one legal step for the request: by the fair rule if calls wait in turn, and else by
 -- the rule of its state.
 abbrev pub HasStepped : Session → Request → Answer → Session → Type 0

@@ -1,10 +1,11 @@
 // The turns of calls in a fair session.
-ghost use Rattle.std.specs.Prelude.{◌≡◌, ◌↔◌, ◌==◌, ◌&&◌, ◌||◌, true, not, Some, IfOk, is_some};
+ghost use Rattle.std.specs.Prelude.{◌≡◌, ◌==◌, ◌&&◌, ◌||◌, true, not, IfOk, is_some};
 ghost use Rattle.std.specs.List.{list_any};
 ghost use Rattle.std.specs.FinMap as finite;
 ghost use Rattle.ft_core.specs.declared.request.Request.TheVariants.{Ask, Retry};
 ghost use Rattle.ft_core.specs.Steps.{answer_with, outcome_answer};
-ghost use Rattle.ft_session.specs.Turns.{AreInTheWay, IsFairly, IsInTurn, kept_turns, turns_after, turns_for};
+ghost use Rattle.ft_session.specs.Turns.{AreInTheWay, kept_turns, turns_after, turns_for};
+ghost use Rattle.ft_session.specs.Sessions.{StepsFairly};
 
 use crate::session::Session;
 use ft_base::Memory;
@@ -31,8 +32,7 @@ impl Session {
 
     /// Carries out a request, if calls wait in turn.
     pub(crate) fn execute_fairly(&mut self, request: Request) -> Answer
-        ensures fairly { IsFairly self.old.core.state self.old.turns.items request result
-            self.new.core.state self.new.turns.items }
+        ensures fairly { StepsFairly self.old request result self.new }
         ensures fair { self.new.is_fair ≡ self.old.is_fair }
         ensures last { self.new.last ≡ self.old.last }
     {
@@ -51,10 +51,8 @@ impl Session {
 
     /// Requests a call in the turn of its transaction.
     fn ask_in_turn(&mut self, txn: TxnId, call: Call) -> Result<Outcome, Fault>
-        ensures turn { IsInTurn self.old.core.state
-            self.old.turns.items txn (λ keeps. (keeps ≡ true)
-            ↔ (finite.get self.old.core.state.asks txn ≡ Some call)) (Ask txn call)
-            (answer_with outcome_answer result) self.new.core.state self.new.turns.items }
+        ensures turn { StepsFairly self.old (Ask txn call) (answer_with outcome_answer result)
+            self.new }
         ensures fair { self.new.is_fair ≡ self.old.is_fair }
         ensures last { self.new.last ≡ self.old.last }
     {
@@ -69,9 +67,8 @@ impl Session {
 
     /// Requests again, in its turn, the call that a transaction waits for.
     fn retry_in_turn(&mut self, txn: TxnId) -> Result<Outcome, Fault>
-        ensures turn { IsInTurn self.old.core.state self.old.turns.items txn (λ keeps. keeps
-            ≡ true) (Retry txn) (answer_with outcome_answer result) self.new.core.state
-            self.new.turns.items }
+        ensures turn { StepsFairly self.old (Retry txn) (answer_with outcome_answer result)
+            self.new }
         ensures fair { self.new.is_fair ≡ self.old.is_fair }
         ensures last { self.new.last ≡ self.old.last }
     {

@@ -1,5 +1,5 @@
 // Views that were opened.
-ghost use Rattle.std.specs.Prelude.{◌≡◌, [], Some, IfOk, IfErr, MatchResult};
+ghost use Rattle.std.specs.Prelude.{◌≡◌, [], Some, IfOk, IfErr};
 ghost use Rattle.ft_tree.specs.Tidy.{tidy};
 ghost use Rattle.ft_core.specs.Living.{NoneIsLive};
 ghost use Rattle.ft_view.specs.Replay.{IsReadable};
@@ -63,9 +63,9 @@ pub struct ViewsRefused<C = Recorded> {
 pub fn with_views<C: Shareable>(core: C) -> Result<Opened<C>, ViewsRefused<C>>
     requires kept { C.forgotten core ≡ Some 0 }
     requires base { C.knows_base core }
-    ensures { MatchResult result
-        (λ opened. (opened.core ≡ C.stored core)
-        × NoneIsLive (C.stored core).state) (λ refused. (refused.core ≡ core)
+    ensures opened { IfOk result
+        (λ opened. (opened.core ≡ C.stored core) × NoneIsLive (C.stored core).state) }
+    ensures refused { IfErr result (λ refused. (refused.core ≡ core)
         × IsRefused (C.stored core).state refused.cause) }
 {
     if core.core().has_live() {

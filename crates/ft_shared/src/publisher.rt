@@ -197,8 +197,7 @@ impl<J: ViewsBrand> Publisher<J> {
 
     /// Gives the book the call that is held, if the book has not got it.
     fn tell(&mut self) -> Result<(), Memory>
-        ensures others { (self.new.published ≡ self.old.published) × (self.new.fed ≡ self.old.fed)
-            × (self.new.held ≡ self.old.held) × (self.new.commits ≡ self.old.commits) }
+        ensures others { self.new ≡ record self.old { told = self.new.told } }
         ensures told { OnOk result (self.new.told ≡ self.old.fed ++ listed self.old.held) }
     {
         let Some(call) = &self.held else {

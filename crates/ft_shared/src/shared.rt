@@ -1,5 +1,5 @@
 // A core behind a lock.
-ghost use Rattle.std.specs.Prelude.{◌≡◌, ◌≤◌, length, MatchResult, IfOk, IfErr, IsTrue, OnOk};
+ghost use Rattle.std.specs.Prelude.{◌≡◌, ◌≤◌, length, IfOk, IfErr, IsTrue, OnOk};
 ghost use Rattle.std.specs.Sync.Mutex.{mutex_guard_value};
 ghost use Rattle.ft_core.specs.declared.fault.Fault.TheVariants.{Memory as MemoryFault, Live as LiveFault};
 ghost use Rattle.ft_core.specs.declared.request.Request.TheVariants.{Begin, Sub, Ask, Retry, Drop as DropAsk, Commit, Abort, Undo};
@@ -65,10 +65,9 @@ impl<J: Sharing, C: Shareable> Shared<J, C> {
     /// Refuses Live if a transaction is live, and hands the core back.
     pub fn new(core: C) -> Result<Shared<J, C>, Refused<C>>
         requires { without_views (C.stored core).state ≡ J.origin }
-        ensures { MatchResult result
-            (λ shared. NoneIsLive (C.stored core).state)
-            (λ refused. (refused.core ≡ core) × (refused.fault ≡ LiveFault)
-            × SomeIsLive (C.stored core).state) }
+        ensures shared { OnOk result (NoneIsLive (C.stored core).state) }
+        ensures refused { IfErr result (λ refused. (refused.core ≡ core)
+            × (refused.fault ≡ LiveFault) × SomeIsLive (C.stored core).state) }
     {
         if core.core().has_live() {
             return Err(Refused {

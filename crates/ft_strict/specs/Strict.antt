@@ -1,6 +1,6 @@
 -- The text that is written for a line of a strict script, and whether the run goes on after it.
 -- (The format is this project's own: docs/SCRIPT.md.)
-use Rattle.std.specs.Prelude.{◌≡◌, ℕ, Bool, true, false, ◌||◌, List, [], ◌∷◌, ◌++◌, codes, take, drop, if◌then◌else◌, MatchBool, Option, None, Some}
+use Rattle.std.specs.Prelude.{◌≡◌, ◌⊎◌, ℕ, Bool, true, false, ◌||◌, List, [], ◌∷◌, ◌++◌, codes, take, drop, if◌then◌else◌, MatchBool, Option, None, Some}
 use Rattle.std.specs.Option.{option_map_or}
 use Rattle.std.specs.Str.{bytes_eq}
 use Rattle.ft_core.specs.declared.request.Answer.{Answer}
@@ -58,3 +58,11 @@ Does well old (line.Query report) text new = Tells well old report text × (new 
 -- may fail.
 abbrev pub AnswersStrictly : Bool → State → List ℕ → List ℕ → State → Type 0
 AnswersStrictly on old bytes text new = (well : Bool) × Does well old (strict_meaning_of bytes) text new × (on ≡ (well || may_fail bytes))
+
+-- The line was not carried out, or it was, and its text is lost.
+abbrev pub MayDo : State → ScriptLine → State → Type 0
+MayDo old line new = (new ≡ old) ⊎ ((well : Bool) × (text : List ℕ) × Does well old line text new)
+
+-- The same of the bytes of a line of a strict script.
+abbrev pub MayAnswerStrictly : State → List ℕ → State → Type 0
+MayAnswerStrictly old bytes new = (new ≡ old) ⊎ ((on : Bool) × (text : List ℕ) × AnswersStrictly on old bytes text new)

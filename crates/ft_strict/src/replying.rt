@@ -1,6 +1,6 @@
 // One line of a strict script, carried out.
-ghost use Rattle.std.specs.Prelude.{◌≡◌, ◌⊎◌, ℕ, Bool, List, string_bytes, IfOk, OnErr};
-ghost use Rattle.ft_strict.specs.Strict.{AnswersStrictly, Does, Tells};
+ghost use Rattle.std.specs.Prelude.{string_bytes, IfOk, OnErr};
+ghost use Rattle.ft_strict.specs.Strict.{AnswersStrictly, Does, Tells, MayDo, MayAnswerStrictly};
 
 use crate::line::strict_line_of;
 use crate::well::{is_well, try_execute};
@@ -28,9 +28,7 @@ pub fn strict_reply_to(alloc: Global, line: &[u8], core: &mut Core) -> Result<St
     ensures ok { IfOk result
         (λ reply. AnswersStrictly reply.goes_on core.old.state line.now (string_bytes reply.text)
         core.new.state) }
-    ensures err { OnErr result ((core.new.state ≡ core.old.state)
-        ⊎ ((on : Bool) × (text : List ℕ)
-        × AnswersStrictly on core.old.state line.now text core.new.state)) }
+    ensures err { OnErr result (MayAnswerStrictly core.old.state line.now core.new.state) }
 {
     let line = strict_line_of(alloc, line)?;
     let (text, well) = reply_to_meaning(alloc, line.meaning, core)?;
@@ -49,8 +47,7 @@ fn reply_to_meaning(
 ) -> Result<(String, bool), Memory>
     ensures ok { IfOk result
         (λ reply. Does reply.1 core.old.state line (string_bytes reply.0) core.new.state) }
-    ensures err { OnErr result ((core.new.state ≡ core.old.state)
-        ⊎ ((well : Bool) × (text : List ℕ) × Does well core.old.state line text core.new.state)) }
+    ensures err { OnErr result (MayDo core.old.state line core.new.state) }
 {
     match line {
         ScriptLine::Silent => Ok((String::new(alloc), true)),
@@ -69,9 +66,8 @@ fn reply_to_request(
     ensures ok { IfOk result
         (λ reply. Does reply.1 core.old.state (ScriptLine.Request request) (string_bytes reply.0)
         core.new.state) }
-    ensures err { OnErr result ((core.new.state ≡ core.old.state)
-        ⊎ ((well : Bool) × (text : List ℕ)
-        × Does well core.old.state (ScriptLine.Request request) text core.new.state)) }
+    ensures err { OnErr result
+        (MayDo core.old.state (ScriptLine.Request request) core.new.state) }
 {
     let answer = try_execute(core, request)?;
     let text = format!(in alloc; "{}\n", AnswerText(&answer))?;

@@ -124,3 +124,7 @@ IsAccounted kept released_cells cells = (c : Cell) → is_spare kept cells c ≡
 -- every useless place is kept
 abbrev pub HasNoneToDrop : (Cell → Bool) → Cells → Type 0
 HasNoneToDrop kept cells = (c : Cell) → is_spare kept cells c ≡ false
+
+-- if each useless place is kept or was released before, every useless place is kept afterwards
+abbrev pub LeavesNone : (Cell → Bool) → ReleasedCells → Cells → Cells → Type 0
+LeavesNone kept released_cells old new = IsAccounted kept (set.contains released_cells) old → HasNoneToDrop kept new

@@ -20,6 +20,9 @@ use Rattle.ft_cells.specs.declared.node.PathEnd.TheVariants.{Named, Itself}
 use Rattle.ft_tree.specs.declared.reader.Halt.{Halt}
 use Rattle.ft_tree.specs.declared.reader.Halt.TheVariants.{Fault, Onto}
 use Rattle.ft_tree.specs.declared.reader.Way.{Way}
+use Rattle.ft_tree.specs.declared.reader.Route.{Route}
+use Rattle.ft_tree.specs.declared.reader.Following.{Following}
+use Rattle.ft_tree.specs.declared.reader.Met.{Met}
 use Rattle.ft_tree.specs.declared.reader.Leg.{Leg as LegOf}
 use Rattle.ft_tree.specs.declared.reader.Leg.TheVariants.{Ends as EndsOf, Meets as MeetsOf}
 use Rattle.ft_cells.specs.declared.cell.Cell.TheVariants.{Entry, Parent, Bytes}
@@ -81,6 +84,10 @@ abbrev pub leg : ℕ → List (List ℕ) → Bool → Bool → Looks Leg
 leg dir [] follow slash = Answer (Ends (Ok (Itself dir)))
 leg dir (name ∷ names) follow slash = leg_from dir name names follow slash
 
+-- the leg along a route. A reader does not need to know this.
+abbrev pub leg_along : Route → Bool → Looks Leg
+leg_along route follow = leg route.start route.names.now follow route.slash
+
 -- a target that begins with a slash starts at the root, and any other target starts in the
 -- directory of its link
 abbrev pub start_of : ℕ → List ℕ → ℕ
@@ -119,10 +126,22 @@ abbrev pub walk_on : ℕ → Bool → ℕ → List (List ℕ) → Bool → Looks
 walk_on zero follow dir names slash = then (leg dir names follow slash) (λ end. Answer (ended end))
 walk_on (suc left) follow dir names slash = then (leg dir names follow slash) (onward (walk_on left follow) slash)
 
+-- the walk along a route that may still follow some links. A reader does not need to know this.
+abbrev pub rest_along : Following → Route → Looks (Result PathEnd Errno)
+rest_along links route = walk_on links.left links.last route.start route.names.now route.slash
+
+-- the walk from a link that was met. A reader does not need to know this.
+abbrev pub rest_from : Following → Met → Bool → Looks (Result PathEnd Errno)
+rest_from links met slash = onward (walk_on links.left links.last) slash (Meets met.link met.dir met.names.now)
+
 -- the walk of components from a directory: it follows at most 40 links ({SYMLOOP_MAX}), and it
 -- follows the last component if the call says so
 abbrev pub walk_from : Bool → ℕ → List (List ℕ) → Bool → Looks (Result PathEnd Errno)
 walk_from follow dir names slash = walk_on MOST_FOLLOWED follow dir names slash
+
+-- the walk along a route: from its start, over its names, and with its slash
+abbrev pub walk_along : Bool → Route → Looks (Result PathEnd Errno)
+walk_along follow route = walk_from follow route.start route.names.now route.slash
 
 -- the walk of the components of a path, from the root
 abbrev pub walk : Bool → List (List ℕ) → Bool → Looks (Result PathEnd Errno)

@@ -5,7 +5,7 @@ ghost use Rattle.ft_cells.specs.declared.cell.Cell.TheVariants.{Entry as EntryCe
 ghost use Rattle.ft_cells.specs.Cells.{entry_of, parent_of, bytes_of};
 ghost use Rattle.ft_cells.specs.Looks.{answer};
 ghost use Rattle.ft_tree.specs.Views.{view_of, NotesLooks};
-ghost use Rattle.ft_tree.specs.Walk.{Meets, up, inner, last, halted, leg, leg_in, start_of, slash_after, way_behind, onward, walk_on, walk_from, walk};
+ghost use Rattle.ft_tree.specs.Walk.{up, inner, last, halted, leg_in, leg_along, start_of, slash_after, way_behind, rest_along, rest_from, walk_along, walk};
 
 use crate::tree::ROOT;
 use ft_base::Memory;
@@ -137,11 +137,9 @@ pub fn walk_from<R: Reader>(
     route: Route<'_>,
 ) -> Result<Result<PathEnd, Errno>, Memory>
     ensures end { IfOk result
-        (λ end. end ≡ answer (walk_from follow route.entry.start route.entry.names.now
-        route.entry.slash) (view_of (R.cells reader.old))) }
+        (λ end. end ≡ answer (walk_along follow route.entry) (view_of (R.cells reader.old))) }
     ensures noted { OnOk result
-        (NotesLooks R.noted (R.cells reader.old)
-        (walk_from follow route.entry.start route.entry.names.now route.entry.slash) reader.old
+        (NotesLooks R.noted (R.cells reader.old) (walk_along follow route.entry) reader.old
         reader.new) }
 {
     let links = Following {
@@ -160,12 +158,10 @@ fn walk_on<R: Reader>(
     route: Route<'_>,
 ) -> Result<Result<PathEnd, Errno>, Memory>
     ensures end { IfOk result
-        (λ end. end ≡ answer (walk_on links.left links.last route.entry.start route.entry.names.now
-        route.entry.slash) (view_of (R.cells reader.old))) }
+        (λ end. end ≡ answer (rest_along links route.entry) (view_of (R.cells reader.old))) }
     ensures noted { OnOk result
-        (NotesLooks R.noted (R.cells reader.old)
-        (walk_on links.left links.last route.entry.start route.entry.names.now route.entry.slash)
-        reader.old reader.new) }
+        (NotesLooks R.noted (R.cells reader.old) (rest_along links route.entry) reader.old
+        reader.new) }
 {
     match walk_leg(reader, route, links.last)? {
         Leg::Ends(end) => Ok(end),
@@ -191,12 +187,10 @@ fn onward<R: Reader>(
     slash: bool,
 ) -> Result<Result<PathEnd, Errno>, Memory>
     ensures end { IfOk result
-        (λ end. end ≡ answer (onward (walk_on links.left links.last) slash
-        (Meets met.entry.link met.entry.dir met.entry.names.now)) (view_of (R.cells reader.old))) }
+        (λ end. end ≡ answer (rest_from links met.entry slash) (view_of (R.cells reader.old))) }
     ensures noted { OnOk result
-        (NotesLooks R.noted (R.cells reader.old)
-        (onward (walk_on links.left links.last) slash
-        (Meets met.entry.link met.entry.dir met.entry.names.now)) reader.old reader.new) }
+        (NotesLooks R.noted (R.cells reader.old) (rest_from links met.entry slash) reader.old
+        reader.new) }
 {
     let target = reader.target(met.link)?;
     match way_behind(alloc, met, slash, target.as_slice())? {
@@ -262,12 +256,10 @@ fn walk_leg<'a, R: Reader>(
     follow: bool,
 ) -> Result<Leg<'a>, Memory>
     ensures end { IfOk result
-        (λ end. leg_in end ≡ answer
-        (leg route.entry.start route.entry.names.now follow route.entry.slash)
-        (view_of (R.cells reader.old))) }
+        (λ end. leg_in end
+        ≡ answer (leg_along route.entry follow) (view_of (R.cells reader.old))) }
     ensures noted { OnOk result
-        (NotesLooks R.noted (R.cells reader.old)
-        (leg route.entry.start route.entry.names.now follow route.entry.slash) reader.old
+        (NotesLooks R.noted (R.cells reader.old) (leg_along route.entry follow) reader.old
         reader.new) }
 {
     let Route {

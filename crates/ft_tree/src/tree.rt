@@ -7,7 +7,7 @@ ghost use Rattle.ft_cells.specs.Looks.{answer};
 ghost use Rattle.ft_tree.specs.Views.{view_of};
 ghost use Rattle.ft_tree.specs.Walk.{walk, found};
 ghost use Rattle.ft_body.specs.declared.TheConstants.{LARGEST_SIZE};
-ghost use Rattle.ft_body.specs.Bytes.{fitting, written, resized};
+ghost use Rattle.ft_body.specs.Bytes.{fitting, after_write, resized};
 ghost use Rattle.ft_cells.specs.Cells.{entry_of, names_of, parent_of, dir_attributes_of, links_of, file_attributes_of, contents_of, bytes_of, time_of, untimed, timed, body_in, open_of, kind_of, has_dir, has_file, put_entry, put_parent, put_dir_attributes, put_links, put_file_attributes, put_contents, put_open, directory_count, HasEntryPlace, HasDirPlace, HasFilePlace, HasOpenPlace, fresh_cells};
 ghost use Rattle.ft_cells.specs.declared.cell.Cell.TheVariants.{Entry as EntryCell, Parent, Links, Fd};
 ghost use Rattle.ft_tree.specs.Held.{place_at, without_place};
@@ -16,7 +16,7 @@ ghost use Rattle.ft_cells.specs.Rows.{rows_of};
 ghost use Rattle.ft_tree.specs.Tidy.{tidy};
 ghost use Rattle.ft_tree.specs.Sound.{AreSoundCells, IsFree};
 ghost use Rattle.std.specs.FinSet as set;
-ghost use Rattle.ft_tree.specs.Sweep.{is_useless, is_spare, one_if, at_place, drop_spare, swept_at, dropped_at, places_in, IsSwept, IsSweptClean, IsAccounted, HasNoneToDrop};
+ghost use Rattle.ft_tree.specs.Sweep.{is_useless, is_spare, one_if, at_place, drop_spare, swept_at, dropped_at, places_in, IsSwept, IsSweptClean, LeavesNone};
 
 use crate::cursor::{Cursor, HintedFile};
 use crate::keeps::Keeps;
@@ -427,8 +427,7 @@ impl Tree {
             (λ done. done.0 ≡ length (fitting LARGEST_SIZE bytes.now offset)) }
         ensures ok { OnOk result (self.new
             ≡ put_contents self.old file
-            (untimed (written (bytes_of self.old file) offset
-            (fitting LARGEST_SIZE bytes.now offset)))) }
+            (untimed (after_write (bytes_of self.old file) offset bytes.now))) }
         ensures undo { IfOk result
             (λ done. done.1 ≡ record {
               before = contents_of self.old file;
@@ -561,9 +560,8 @@ impl Tree {
         ensures swept { IsSwept (K.kept keeps.old) self.old self.new }
         ensures clean { IsSweptClean (K.kept keeps.old) (set.contains (K.released_cells keeps.old))
             self.old self.new }
-        ensures none_left { IsAccounted (K.kept keeps.old)
-            (set.contains (K.released_cells keeps.old)) self.old
-            → HasNoneToDrop (K.kept keeps.old) self.new }
+        ensures none_left { LeavesNone (K.kept keeps.old) (K.released_cells keeps.old) self.old
+            self.new }
         ensures tidy { tidy self.new ≡ tidy self.old }
         ensures sound { AreSoundCells self.old → AreSoundCells self.new }
         ensures told { keeps.new ≡ K.all_told keeps.old }

@@ -11,7 +11,7 @@ use Rattle.ft_history.specs.Logs.{pushed}
 use Rattle.ft_undo.specs.declared.undo.BeforeImage.{BeforeImage}
 use Rattle.ft_undo.specs.declared.logs.LogRecord.{LogRecord}
 use Rattle.ft_undo.specs.Logs.{AreLists}
-use Rattle.ft_undo.specs.Undone.{given_back, CanGiveAllBack, AreAsLeft, restored, CanRestoreAll}
+use Rattle.ft_undo.specs.Undone.{given_back, AreAsLeft, MayRevert, restored, CanRestoreAll}
 
 -- The writes are made on the cells, and their undo is the newest of the transaction's list. The
 -- undo is the inverse. It may be given back if the written cells are as they were left. Right after
@@ -21,7 +21,7 @@ pub record IsLogged (old new : Cells) (writes : List Write) (lists lists' : List
   pub left : AreAsLeft new new (map written_cell writes)
   pub undo : List BeforeImage
   pub inverse : map given_back undo ≡ before posix old writes
-  pub may_revert : (at : Cells) → AreAsLeft at new (map written_cell writes) → CanGiveAllBack at undo
+  pub may_revert : MayRevert new writes undo
   pub can_take_back : CanRestoreAll new undo
   pub taken_back : restored new undo ≡ old
   pub listed : AreLists lists' (pushed (list_in lists) txn (record { stamp = stamp; undo = undo }))

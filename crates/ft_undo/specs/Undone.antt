@@ -1,6 +1,6 @@
 -- How the edits of a call are undone. (Moss 1981, state restoration: what an aborted call wrote
 -- gets back its version from before.)
-use Rattle.std.specs.Prelude.{◌≡◌, List, [], ◌∷◌, None, Some, unwrap_or, Result, Ok, Err}
+use Rattle.std.specs.Prelude.{◌≡◌, List, [], ◌∷◌, map, None, Some, unwrap_or, Result, Ok, Err}
 use Rattle.std.specs.Option.{option_flatten}
 use Rattle.ft_base.specs.declared.memory.Memory.{Memory}
 use Rattle.ft_body.specs.declared.TheConstants.{LARGEST_SIZE}
@@ -12,6 +12,7 @@ use Rattle.ft_tree.specs.Held.{held, place_at, without_place, IsStored}
 use Rattle.ft_posix.specs.declared.intent.Edit.{Edit}
 use Rattle.ft_posix.specs.declared.intent.Edit.TheVariants.{Entry, Parent, Links, Overwrite, Resize, Open, DirAttributes, FileAttributes, Time}
 use Rattle.ft_posix.specs.Outcomes.{Write, sets}
+use Rattle.ft_posix.specs.Accesses.{written_cell}
 use Rattle.ft_posix.specs.Stored.{put}
 use Rattle.ft_posix.specs.Computes.{write_of}
 use Rattle.ft_posix.specs.Edits.{edited}
@@ -106,3 +107,7 @@ IsLeft cells before (edit ∷ edits) = CanGiveBack cells (back_of before edit) �
 abbrev pub AreAsLeft : Cells → Cells → List Cell → Type 0
 AreAsLeft cells left [] = Unit {0}
 AreAsLeft cells left (c ∷ cs) = IsStored cells c × (held cells c ≡ held left c) × AreAsLeft cells left cs
+
+-- these before-images may be given back to any cells that hold what the writes left
+abbrev pub MayRevert : Cells → List Write → List BeforeImage → Type 0
+MayRevert left writes images = (cells : Cells) → AreAsLeft cells left (map written_cell writes) → CanGiveAllBack cells images

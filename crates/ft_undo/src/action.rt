@@ -1,6 +1,5 @@
 ghost use Rattle.std.specs.Prelude.{◌≡◌, ◌≢◌, ℕ, map, IfOk, OnOk, OnErr};
 ghost use Rattle.ft_laws.specs.Effects.{before};
-ghost use Rattle.ft_cells.specs.Cells.{Cells};
 ghost use Rattle.ft_tree.specs.Sound.{AreSoundCells, IsFree};
 ghost use Rattle.ft_tree.specs.Tidy.{tidy};
 ghost use Rattle.ft_posix.specs.Exec.{exec};
@@ -8,7 +7,7 @@ ghost use Rattle.ft_posix.specs.Stored.{outcome, after};
 ghost use Rattle.ft_posix.specs.Accesses.{written_cell};
 ghost use Rattle.ft_posix.specs.Perform.{OnlyTells};
 ghost use Rattle.ft_posix.specs.Posix.{posix};
-ghost use Rattle.ft_undo.specs.Undone.{given_back, CanGiveAllBack, AreAsLeft};
+ghost use Rattle.ft_undo.specs.Undone.{given_back, AreAsLeft, MayRevert};
 
 use crate::undo::{Undo, apply};
 use ft_base::Memory;
@@ -56,9 +55,7 @@ pub fn perform(
         (λ done. map given_back done.1
         ≡ before posix tree.old (outcome tree.old stamp call.now).writes) }
     ensures may_revert { IfOk result
-        (λ done. (cells : Cells)
-        → AreAsLeft cells tree.new (map written_cell (outcome tree.old stamp call.now).writes)
-        → CanGiveAllBack cells done.1) }
+        (λ done. MayRevert tree.new (outcome tree.old stamp call.now).writes done.1) }
 {
     let Prepared {
         accesses: _,

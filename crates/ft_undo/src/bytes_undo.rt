@@ -1,7 +1,7 @@
 // How a change of a file's bytes is undone.
 ghost use Rattle.std.specs.Prelude.{◌≡◌, ◌≤◌, IfOk, OnOk, OnErr};
 ghost use Rattle.ft_body.specs.declared.TheConstants.{LARGEST_SIZE};
-ghost use Rattle.ft_body.specs.Bytes.{fitting, written, resized};
+ghost use Rattle.ft_body.specs.Bytes.{after_write, resized};
 ghost use Rattle.ft_cells.specs.Cells.{contents_of, bytes_of, untimed, put_contents, HasFilePlace};
 
 use ft_base::Memory;
@@ -47,8 +47,7 @@ impl BytesUndo {
         requires limit { offset ≤ LARGEST_SIZE }
         ensures ok { OnOk result (tree.new
             ≡ put_contents tree.old file.now
-            (untimed (written (bytes_of tree.old file.now) offset
-            (fitting LARGEST_SIZE bytes.now offset)))) }
+            (untimed (after_write (bytes_of tree.old file.now) offset bytes.now))) }
         ensures undo { IfOk result
             (λ undo. undo ≡ record {
               before = contents_of tree.old file.now;

@@ -2,13 +2,13 @@
 ghost use Rattle.std.specs.Prelude.{◌≡◌, [], length, map, IfOk, OnOk, OnErr};
 ghost use Rattle.ft_posix.specs.Stored.{put, put_all};
 ghost use Rattle.ft_laws.specs.Effects.{before};
-ghost use Rattle.ft_cells.specs.Cells.{Cells, contents_of, timed, put_entry, put_dir_attributes, put_file_attributes, put_contents, HasDirPlace, HasFilePlace};
+ghost use Rattle.ft_cells.specs.Cells.{contents_of, timed, put_entry, put_dir_attributes, put_file_attributes, put_contents, HasDirPlace, HasFilePlace};
 ghost use Rattle.ft_posix.specs.declared.intent.Edit.TheVariants.{Entry as EntryEdit, DirAttributes, FileAttributes, Time};
 ghost use Rattle.ft_posix.specs.Accesses.{written_cell};
 ghost use Rattle.ft_posix.specs.Posix.{posix};
 ghost use Rattle.ft_posix.specs.Computes.{write_of, writes_of};
 ghost use Rattle.ft_posix.specs.Edits.{CanEdit, CanEditAll, Apart};
-ghost use Rattle.ft_undo.specs.Undone.{back_of, given_back, restore, restored, CanGiveBack, CanGiveAllBack, CanRestoreAll, AreAsLeft, IsApplied};
+ghost use Rattle.ft_undo.specs.Undone.{back_of, given_back, restore, restored, CanGiveBack, CanGiveAllBack, CanRestoreAll, AreAsLeft, MayRevert, IsApplied};
 
 use crate::bytes_undo::BytesUndo;
 use crate::entry_was::EntryWas;
@@ -139,9 +139,7 @@ pub fn apply(alloc: Global, tree: &mut Tree, intent: Intent<'_>) -> Result<Undo,
         (λ undo. map given_back undo
         ≡ before posix tree.old (writes_of tree.old intent.entry.edits)) }
     ensures may_revert { IfOk result
-        (λ undo. (cells : Cells)
-        → AreAsLeft cells tree.new (map written_cell (writes_of tree.old intent.entry.edits))
-        → CanGiveAllBack cells undo) }
+        (λ undo. MayRevert tree.new (writes_of tree.old intent.entry.edits) undo) }
     ensures can_take_back { IfOk result (λ undo. CanRestoreAll tree.new undo) }
     ensures taken_back { IfOk result (λ undo. restored tree.new undo ≡ tree.old) }
 {

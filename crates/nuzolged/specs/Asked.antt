@@ -1,10 +1,11 @@
 -- The outcome of a request through a handle.
-use Rattle.std.specs.Prelude.{◌≡◌, ◌⊎◌, ◌||◌, ◌==◌, ℕ, ℤ, Bool, true, false, cond, List, Option, Some, None, Result, Ok, Err, suc, zero}
+use Rattle.std.specs.Prelude.{◌≡◌, ◌⊎◌, ◌||◌, ◌==◌, ℕ, ℤ, Bool, true, false, cond, List, Option, Some, None, MatchOption, Result, Ok, Err, suc, zero}
 use Rattle.ft_path.specs.Name.{has_nul}
 use Rattle.ft_cells.specs.declared.attributes.Timestamp.{Timestamp}
 use Rattle.ft_cells.specs.declared.limits.TreeLimits.{TreeLimits}
 use Rattle.ft_cells.specs.Limits.{default_limits}
 use Rattle.ft_posix.specs.declared.call.Call.{Call}
+use Rattle.ft_posix.specs.declared.call.Call.TheVariants as calls
 use Rattle.ft_posix.specs.declared.call.Whence.{Whence}
 use Rattle.ft_posix.specs.declared.call.Whence.TheVariants.{Set, Cur, End}
 use Rattle.ft_core.specs.declared.request.Answer.{Answer}
@@ -18,6 +19,7 @@ use Rattle.nuzolged.specs.declared.nuz_answer.NuzAnswer.{NuzAnswer}
 use Rattle.nuzolged.specs.declared.asking.BadArgument.{BadArgument}
 use Rattle.nuzolged.specs.declared.asking.BadArgument.TheVariants as unasked
 use Rattle.nuzolged.specs.Cuts.{cut_path, cut_of, limits_in, AreAlike}
+use Rattle.nuzolged.specs.Flags.{open_call, opening_of}
 use Rattle.nuzolged.specs.Numbers.{told_of_answer, closed, bad}
 
 -- The handle is closed, and stays so. Or the core of its session has made one legal step for
@@ -87,3 +89,15 @@ whence_of zero = Some Set
 whence_of (suc zero) = Some Cur
 whence_of (suc (suc zero)) = Some End
 whence_of (suc (suc (suc number))) = None
+
+-- ---- a word that has to stand for something
+
+-- An offset is set from the place that `whence` stands for; it is a bad argument if it stands for
+-- none.
+abbrev pub IsSeekAsked : Option Session → ℕ → ℕ → ℤ → ℕ → NuzAnswer → Option Session → Type 0
+IsSeekAsked old txn fd off whence told new = MatchOption (whence_of whence) (IsBad old told new) (λ from. IsAsked old (Ask txn (calls.Lseek fd from off)) told new)
+
+-- A file is opened as the flags of a word say; they are a bad argument if they say nothing.
+abbrev pub IsOpenAsked : Option Session → ℕ → List ℕ → ℕ → ℕ → NuzAnswer → Option Session → Type 0
+IsOpenAsked old txn path flags mode told new =
+    MatchOption (opening_of flags) (IsBad old told new) (λ opening. IsCalled (has_nul path) old txn (open_call path opening (given_of mode)) told new)

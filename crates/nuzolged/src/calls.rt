@@ -1,10 +1,10 @@
 // The calls on descriptors.
-ghost use Rattle.std.specs.Prelude.{◌≡◌, MatchOption, length};
+ghost use Rattle.std.specs.Prelude.{◌≡◌, length};
 ghost use Rattle.ft_core.specs.declared.request.Request.TheVariants.{Ask};
 ghost use Rattle.ft_posix.specs.declared.call.Call.TheVariants as calls;
 ghost use Rattle.ft_session.specs.Buffers.{filled_by};
 ghost use Rattle.nuzolged.specs.Answers.{IsTold};
-ghost use Rattle.nuzolged.specs.Asked.{IsAsked, IsBad, IsCallAsked, whence_of};
+ghost use Rattle.nuzolged.specs.Asked.{whence_of, IsAsked, IsCallAsked, IsSeekAsked};
 ghost use Rattle.nuzolged.specs.Parts.{data_held};
 
 use crate::answered::{Answered, tell};
@@ -79,9 +79,8 @@ pub extern "C" fn nuz_lseek(
     whence: u32,
     answer: &mut Answered,
 ) -> u32
-    ensures asked { MatchOption (whence_of whence)
-        (IsBad tree.old.session answer.new.told tree.new.session) (λ from. IsAsked tree.old.session
-        (Ask txn (calls.Lseek fd from off)) answer.new.told tree.new.session) }
+    ensures asked { IsSeekAsked tree.old.session txn fd off whence answer.new.told
+        tree.new.session }
     ensures told { IsTold tree.new.session result answer.new }
 {
     let told = match whence_of(whence) {

@@ -1,11 +1,11 @@
 // The calls on paths.
-ghost use Rattle.std.specs.Prelude.{◌≡◌, ◌||◌, MatchOption, None, cond};
+ghost use Rattle.std.specs.Prelude.{◌≡◌, ◌||◌, None, cond};
 ghost use Rattle.ft_path.specs.Name.{has_nul};
 ghost use Rattle.ft_posix.specs.declared.call.Call.TheVariants as calls;
 ghost use Rattle.ft_session.specs.Buffers.{filled_by};
 ghost use Rattle.nuzolged.specs.Answers.{IsTold};
-ghost use Rattle.nuzolged.specs.Asked.{IsBad, IsCalled, given_of};
-ghost use Rattle.nuzolged.specs.Flags.{open_call, opening_of};
+ghost use Rattle.nuzolged.specs.Asked.{IsCalled, given_of, IsOpenAsked};
+ghost use Rattle.nuzolged.specs.Flags.{open_call};
 ghost use Rattle.nuzolged.specs.Parts.{data_held};
 ghost use Rattle.nuzolged.specs.Reads.{read_call};
 
@@ -285,10 +285,8 @@ pub extern "C" fn nuz_open(
     mode: u32,
     answer: &mut Answered,
 ) -> u32
-    ensures asked { MatchOption (opening_of flags)
-        (IsBad tree.old.session answer.new.told tree.new.session) (λ opening. IsCalled
-        (has_nul path.now) tree.old.session txn (open_call path.now opening (given_of mode))
-        answer.new.told tree.new.session) }
+    ensures asked { IsOpenAsked tree.old.session txn path.now flags mode answer.new.told
+        tree.new.session }
     ensures told { IsTold tree.new.session result answer.new }
 {
     let told = match opening_of(flags) {

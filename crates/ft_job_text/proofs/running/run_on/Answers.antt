@@ -11,7 +11,7 @@ pub run_jobs_shown-requires-sync-M : goal.run_jobs_shown-requires-sync-M
 run_jobs_shown-requires-sync-M g c κs within = search (Shared-sync, crosses, sendable) depth 40
 
 pub unreachable-requires : goal.unreachable-requires
-unreachable-requires g c = c.requires.none_live c.in-Err.ensures.2
+unreachable-requires g c = c.requires.none_live c.in-Err.ensures.refused.2
 
 pub returns-clause-core : goal.returns-clause-core
 returns-clause-core g c =

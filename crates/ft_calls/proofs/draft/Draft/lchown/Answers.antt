@@ -8,13 +8,13 @@ use Rattle.ft_posix.specs.Intended.{intended}
 use Rattle.ft_calls.proofs.PathsJudged.{found_on, found_lost}
 use Rattle.ft_calls.proofs.draft.Draft.lchown.Goals as goal
 
-pub returns-in_err-spot : goal.returns-in_err-spot
-returns-in_err-spot c =
+pub returns-in_err-spot-clause-plans : goal.returns-in_err-spot-clause-plans
+returns-in_err-spot-clause-plans c =
     let p = err_from_is_err_and c.from_residual.result c.from_residual.ensures.1 in
-    rw (p.1, p.2) (found_lost c.args.self.now.look false (parts_of c.args.path.now) (lchown_spot c.args.owner c.args.group) c.find_spot.new.look c.in_err-spot.field-0.0 c.in_err-spot.ensures)
+    rw (p.1, p.2) (found_lost c.args.self.now.look.now false (parts_of c.args.path.now) (lchown_spot c.args.owner c.args.group) c.find_spot.new.look c.in_err-spot.field-0.0 c.in_err-spot.ensures)
 
-pub returns : goal.returns
-returns c =
+pub returns-clause-plans : goal.returns-clause-plans
+returns-clause-plans c =
     let on = c.change_spot in
-    found_on c.args.self.now.look false (parts_of c.args.path.now) (lchown_spot c.args.owner c.args.group) c.find_spot.new.look c.in_ok-spot.spot c.in_ok-spot.ensures on.new.self.look (intended on.new.self.edits on.result)
-    (subst (λ (at_link : Outcome). Computes c.find_spot.new.look (change_spot (with_owner c.args.owner c.args.group) at_link c.in_ok-spot.spot) on.new.self.look (intended on.new.self.edits on.result)) c.link_fault.ensures on.ensures)
+    found_on c.args.self.now.look.now false (parts_of c.args.path.now) (lchown_spot c.args.owner c.args.group) c.find_spot.new.look c.in_ok-spot.spot c.in_ok-spot.ensures on.new.self.look.now (intended on.new.self.edits.now on.result)
+    (subst (λ (at_link : Outcome). Computes c.find_spot.new.look (change_spot (with_owner c.args.owner c.args.group) at_link c.in_ok-spot.spot) on.new.self.look.now (intended on.new.self.edits.now on.result)) c.link_fault.ensures on.ensures.plans)

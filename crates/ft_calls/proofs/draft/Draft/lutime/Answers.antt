@@ -6,12 +6,12 @@ use Rattle.ft_posix.specs.Intended.{intended}
 use Rattle.ft_calls.proofs.PathsJudged.{judged_on, judged_lost}
 use Rattle.ft_calls.proofs.draft.Draft.lutime.Goals as goal
 
-pub returns-in_err-spot : goal.returns-in_err-spot
-returns-in_err-spot c =
+pub returns-in_err-spot-clause-plans : goal.returns-in_err-spot-clause-plans
+returns-in_err-spot-clause-plans c =
     let p = err_from_is_err_and c.from_residual.result c.from_residual.ensures.1 in
-    rw (p.1, p.2) (judged_lost c.args.self.now.look false (parts_of c.args.path.now) (lutime_spot c.args.time) c.find_spot.new.look c.time_fault.result (time_fault c.args.time) c.time_fault.ensures c.in_err-spot.field-0.0 c.in_err-spot.ensures)
+    rw (p.1, p.2) (judged_lost c.args.self.now.look.now false (parts_of c.args.path.now) (lutime_spot c.args.time) c.find_spot.new.look c.time_fault.result (time_fault c.args.time) c.time_fault.ensures c.in_err-spot.field-0.0 c.in_err-spot.ensures)
 
-pub returns : goal.returns
-returns c =
+pub returns-clause-plans : goal.returns-clause-plans
+returns-clause-plans c =
     let on = c.time_spot in
-    judged_on c.args.self.now.look false (parts_of c.args.path.now) (lutime_spot c.args.time) c.find_spot.new.look c.time_fault.result (time_fault c.args.time) c.time_fault.ensures c.in_ok-spot.spot c.in_ok-spot.ensures on.new.self.look (intended on.new.self.edits on.result) on.ensures
+    judged_on c.args.self.now.look.now false (parts_of c.args.path.now) (lutime_spot c.args.time) c.find_spot.new.look c.time_fault.result (time_fault c.args.time) c.time_fault.ensures c.in_ok-spot.spot c.in_ok-spot.ensures on.new.self.look.now (intended on.new.self.edits.now on.result) on.ensures.plans

@@ -19,11 +19,11 @@ use Rattle.ft_calls.proofs.More.{tells-more}
 use Rattle.ft_calls.proofs.draft.Draft.make_dir.Goals as goal
 
 -- the edits are those of a directory, and of its mode behind them
-pub returns : goal.returns
-returns c =
+pub returns-clause-plans : goal.returns-clause-plans
+returns-clause-plans c =
     let at = c.in-Named-default-None-default in
     let k = c.args.self.now.stamp in
-    let old = c.args.self.now.look in
+    let old = c.args.self.now.look.now in
     let spot : c.args.spot ≡ Named at.entry None at.slash = search rules in
     let first : c.push-2.new.self ≡ Parent k (Some at.entry.dir) ∷ Entry at.entry (Some (DirNode k)) ∷ [] = search rules in
     let plain : Outcome = record { reply = reply.Done; writes = sets (cell.Parent k) (Some at.entry.dir) ∷ sets (cell.Entry at.entry) (Some (DirNode k)) ∷ [] } in (

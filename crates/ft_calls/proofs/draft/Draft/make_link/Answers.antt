@@ -21,11 +21,11 @@ use Rattle.ft_calls.proofs.Targets.{written-new}
 use Rattle.ft_calls.proofs.draft.Draft.make_link.Goals as goal
 
 -- the edits are those of a link, and its bytes are the target, since nothing stood there
-pub returns : goal.returns
-returns c =
+pub returns-clause-plans : goal.returns-clause-plans
+returns-clause-plans c =
     let at = c.in-Named-default-None-default in
     let k = c.args.self.now.stamp in
-    let old = c.args.self.now.look in
+    let old = c.args.self.now.look.now in
     let spot : c.args.spot ≡ Named at.entry None false = search rules in
     let edits : c.push-3.new.self ≡ Links k 1 ∷ Overwrite k 0 c.args.target ∷ Entry at.entry (Some (FileNode LinkForm k)) ∷ [] = search rules in
     let new : List ℕ → Outcome = λ bytes. record { reply = reply.Done; writes = sets (cell.Links k) 1 ∷ sets (cell.Bytes k) (untimed bytes) ∷ sets (cell.Entry at.entry) (Some (FileNode LinkForm k)) ∷ [] } in

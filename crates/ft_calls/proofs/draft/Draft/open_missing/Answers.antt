@@ -17,12 +17,12 @@ use Rattle.ft_calls.proofs.More.{tells-more}
 use Rattle.ft_calls.proofs.draft.Draft.open_missing.Goals as goal
 
 -- the edits are those of a file, and of its mode behind them
-pub returns : goal.returns
-returns c =
+pub returns-clause-plans : goal.returns-clause-plans
+returns-clause-plans c =
     let k = c.args.self.now.stamp in
     let flags = c.args.flags in
     let entry = c.args.entry in
-    let cells = c.args.self.now.look.cells in
+    let cells = c.args.self.now.look.now.cells in
     let asked : (flags.create && not c.args.slash) ≡ true = search rules in
     let first : c.push-4.new.self ≡ Links k 1 ∷ Resize k 0 ∷ Open k (Some (description flags k)) ∷ Entry entry (Some (FileNode Regular k)) ∷ [] = search rules in
     let plain : Outcome = record {

@@ -9,14 +9,14 @@ use Rattle.ft_posix.specs.Intended.{intended}
 use Rattle.ft_calls.proofs.Opened.{opened_on, opened_lost}
 use Rattle.ft_calls.proofs.draft.Draft.pwrite.Goals as goal
 
-pub returns-in_err-description : goal.returns-in_err-description
-returns-in_err-description c =
+pub returns-in_err-description-clause-plans : goal.returns-in_err-description-clause-plans
+returns-in_err-description-clause-plans c =
     let p = err_from_is_err_and c.from_residual.result c.from_residual.ensures.1 in
-    rw (p.1, p.2) (opened_lost c.args.self.now.look c.args.fd is_writable (pwrite_open c.args.self.now.look.cells.limits c.args.offset c.args.bytes.now) c.open_for.new.look c.in_err-description.field-0.0 c.in_err-description.ensures)
+    rw (p.1, p.2) (opened_lost c.args.self.now.look.now c.args.fd is_writable (pwrite_open c.args.self.now.look.now.cells.limits c.args.offset c.args.bytes.now) c.open_for.new.look c.in_err-description.field-0.0 c.in_err-description.ensures)
 
-pub returns : goal.returns
-returns c =
+pub returns-clause-plans : goal.returns-clause-plans
+returns-clause-plans c =
     let on = c.pwrite_open in
-    subst (λ (l : TreeLimits). Computes c.args.self.now.look (with_open c.args.fd is_writable (pwrite_open l c.args.offset c.args.bytes.now)) on.new.self.look (intended on.new.self.edits on.result)) c.limits-limits.ensures.are
-    (opened_on c.args.self.now.look c.args.fd is_writable (pwrite_open c.limits-limits.result c.args.offset c.args.bytes.now) c.open_for.new.look c.in_ok-description.description c.in_ok-description.ensures on.new.self.look (intended on.new.self.edits on.result)
-    (subst (λ z. Computes c.open_for.new.look (pwrite_open c.limits-limits.result z c.args.bytes.now c.in_ok-description.description) on.new.self.look (intended on.new.self.edits on.result)) (to_z-of_z w64 c.args.offset (search rules)) on.ensures))
+    subst (λ (l : TreeLimits). Computes c.args.self.now.look.now (with_open c.args.fd is_writable (pwrite_open l c.args.offset c.args.bytes.now)) on.new.self.look.now (intended on.new.self.edits.now on.result)) c.limits-limits.ensures.are
+    (opened_on c.args.self.now.look.now c.args.fd is_writable (pwrite_open c.limits-limits.result c.args.offset c.args.bytes.now) c.open_for.new.look c.in_ok-description.description c.in_ok-description.ensures on.new.self.look.now (intended on.new.self.edits.now on.result)
+    (subst (λ z. Computes c.open_for.new.look (pwrite_open c.limits-limits.result z c.args.bytes.now c.in_ok-description.description) on.new.self.look.now (intended on.new.self.edits.now on.result)) (to_z-of_z w64 c.args.offset (search rules)) on.ensures.plans))

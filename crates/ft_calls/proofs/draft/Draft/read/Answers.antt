@@ -4,13 +4,13 @@ use Rattle.ft_posix.specs.Intended.{intended}
 use Rattle.ft_calls.proofs.Opened.{opened_on, opened_lost}
 use Rattle.ft_calls.proofs.draft.Draft.read.Goals as goal
 
-pub returns-in_err-description : goal.returns-in_err-description
-returns-in_err-description c =
+pub returns-in_err-description-clause-plans : goal.returns-in_err-description-clause-plans
+returns-in_err-description-clause-plans c =
     let p = err_from_is_err_and c.from_residual.result c.from_residual.ensures.1 in
-    rw (p.1, p.2) (opened_lost c.args.self.now.look c.args.fd is_readable (read_open c.args.fd c.args.len) c.open_for.new.look c.in_err-description.field-0.0 c.in_err-description.ensures)
+    rw (p.1, p.2) (opened_lost c.args.self.now.look.now c.args.fd is_readable (read_open c.args.fd c.args.len) c.open_for.new.look c.in_err-description.field-0.0 c.in_err-description.ensures)
 
-pub returns : goal.returns
-returns c =
+pub returns-clause-plans : goal.returns-clause-plans
+returns-clause-plans c =
     let on = c.read_open in
-    opened_on c.args.self.now.look c.args.fd is_readable (read_open c.args.fd c.args.len) c.open_for.new.look c.in_ok-description.description c.in_ok-description.ensures on.new.self.look (intended on.new.self.edits on.result)
-    on.ensures
+    opened_on c.args.self.now.look.now c.args.fd is_readable (read_open c.args.fd c.args.len) c.open_for.new.look c.in_ok-description.description c.in_ok-description.ensures on.new.self.look.now (intended on.new.self.edits.now on.result)
+    on.ensures.plans

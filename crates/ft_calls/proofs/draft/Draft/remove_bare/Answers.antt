@@ -10,9 +10,9 @@ use Rattle.ft_posix.proofs.Moving.{writes_of-append}
 use Rattle.ft_calls.proofs.More.{bare-removed}
 use Rattle.ft_calls.proofs.draft.Draft.remove_bare.Goals as goal
 
-pub returns : goal.returns
-returns c =
-    let cells = c.args.self.now.look.cells in
+pub returns-clause-plans : goal.returns-clause-plans
+returns-clause-plans c =
+    let cells = c.args.self.now.look.now.cells in
     let gone = sets (cell.DirAttributes c.args.number) None ∷ sets (cell.Parent c.args.number) None ∷ [] in
     let bare : is_none_of (names_of cells c.args.number) ≡ true = search rules in
     let edits : writes_of cells c.push.new.self ≡ gone ++ sets (cell.Entry c.args.entry) None ∷ [] =

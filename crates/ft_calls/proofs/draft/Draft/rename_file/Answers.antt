@@ -22,7 +22,7 @@ onto_none look old form file slash spot new r is without h =
     subst (λ s. Computes look (rename_file old form file s) look r) (sym is)
     (subst (λ b. Computes look (Answer (cond b (failed ENOTDIR) (renamed old (FileNode form file) new []))) look r) (sym without) h)
 
-pub returns-in_ok-push_rename-in-None-2 : goal.returns-in_ok-push_rename-in-None-2
-returns-in_ok-push_rename-in-None-2 c =
-    onto_none c.args.self.now.look c.args.old c.args.form c.args.file c.in-Named.slash c.args.spot c.in-Named.new (Ok (done c.push_rename.new.edits)) (search rules) (search rules)
-    (c.in_ok-push_rename-in-None-2.ensures c.args.self.now.look.cells, refl)
+pub returns-in_ok-push_rename-in-None-2-clause-plans : goal.returns-in_ok-push_rename-in-None-2-clause-plans
+returns-in_ok-push_rename-in-None-2-clause-plans c =
+    onto_none c.args.self.now.look.now c.args.old c.args.form c.args.file c.in-Named.slash c.args.spot c.in-Named.new (Ok (done c.push_rename.new.edits)) (search rules) (search rules)
+    (c.in_ok-push_rename-in-None-2.ensures c.args.self.now.look.now.cells, refl)

@@ -4,16 +4,16 @@ use Rattle.ft_posix.specs.Intended.{intended}
 use Rattle.ft_posix.proofs.Looking.{comes_met, comes_unmet}
 use Rattle.ft_calls.proofs.draft.Draft.replace_dir.Goals as goal
 
-pub returns-then-branch : goal.returns-then-branch
-returns-then-branch c =
+pub returns-then-branch-clause-plans : goal.returns-then-branch-clause-plans
+returns-then-branch-clause-plans c =
     let old = c.args.old in
     let new = c.args.new in
     let go = replace_dir old c.args.number new c.args.replaced in
-    comes_met c.args.self.now.look (directory_count c.args.self.now.look.cells) c.args.number new.dir go c.climb.new.self c.in_ok-climb.field-0 c.in_ok-climb.ensures c.if-branch.true
+    comes_met c.args.self.now.look.now (directory_count c.args.self.now.look.now.cells) c.args.number new.dir go c.climb.new.self c.in_ok-climb.field-0 c.in_ok-climb.ensures c.if-branch.true
 
-pub returns : goal.returns
-returns c =
+pub returns-clause-plans : goal.returns-clause-plans
+returns-clause-plans c =
     let old = c.args.old in
     let new = c.args.new in
     let go = replace_dir old c.args.number new c.args.replaced in
-    comes_unmet c.args.self.now.look (directory_count c.args.self.now.look.cells) c.args.number new.dir go c.climb.new.self c.in_ok-climb.field-0 c.in_ok-climb.ensures c.if-branch.false c.replace_empty.new.self.look (intended c.replace_empty.new.self.edits c.replace_empty.result) c.replace_empty.ensures
+    comes_unmet c.args.self.now.look.now (directory_count c.args.self.now.look.now.cells) c.args.number new.dir go c.climb.new.self c.in_ok-climb.field-0 c.in_ok-climb.ensures c.if-branch.false c.replace_empty.new.self.look.now (intended c.replace_empty.new.self.edits.now c.replace_empty.result) c.replace_empty.ensures.plans

@@ -8,11 +8,11 @@ use Rattle.ft_posix.specs.Looking.{is_none_of}
 use Rattle.ft_posix.proofs.Moving.{comes-more, bare-replaced}
 use Rattle.ft_calls.proofs.draft.Draft.replace_empty.Goals as goal
 
-pub returns : goal.returns
-returns c =
+pub returns-clause-plans : goal.returns-clause-plans
+returns-clause-plans c =
     let old = c.args.old in
     let new = c.args.new in
-    let cells = c.args.self.now.look.cells in
+    let cells = c.args.self.now.look.now.cells in
     let gone = sets (cell.DirAttributes c.args.replaced) None ∷ sets (cell.Parent c.args.replaced) None ∷ [] in
     let first = c.push_rename.new.edits in
     let second = c.dir_gone.new.edits in

@@ -8,11 +8,11 @@ use Rattle.ft_posix.specs.Computes.{writes_of}
 use Rattle.ft_posix.proofs.Moving.{comes-more, writes_of-append}
 use Rattle.ft_calls.proofs.draft.Draft.replace_file.Goals as goal
 
-pub returns : goal.returns
-returns c =
+pub returns-clause-plans : goal.returns-clause-plans
+returns-clause-plans c =
     let old = c.args.old in
     let new = c.args.new in
-    let cells = c.args.self.now.look.cells in
+    let cells = c.args.self.now.look.now.cells in
     let first = c.push_rename.new.edits in
     let second = c.push.new.self in
     let left : c.saturating_sub.result ≡ links_of cells c.args.replaced - 1 = search rules in

@@ -6,8 +6,8 @@ use Rattle.std.proofs.Common.{List, ℕ, subst}
 use Rattle.ft_posix.proofs.Looking.{comes_text}
 use Rattle.ft_calls.proofs.draft.Draft.symlink.Goals as goal
 
-pub returns : goal.returns
-returns c =
+pub returns-clause-plans : goal.returns-clause-plans
+returns-clause-plans c =
     let l = c.symlink_parts in
-    subst (λ (target : List ℕ). Computes c.args.self.now.look (symlink_parts c.args.self.now.stamp target (parts_of c.args.path.now)) l.new.self.look (intended l.new.self.edits l.result)) c.as_bytes.ensures.value
-    (comes_text c.args.self.now.look (symlink_parts c.args.self.now.stamp c.as_bytes.result.now) (parts_of c.args.path.now) c.in_ok-parts.parts c.in_ok-parts.ensures l.new.self.look (intended l.new.self.edits l.result) l.ensures)
+    subst (λ (target : List ℕ). Computes c.args.self.now.look.now (symlink_parts c.args.self.now.stamp target (parts_of c.args.path.now)) l.new.self.look.now (intended l.new.self.edits.now l.result)) c.as_bytes.ensures.value
+    (comes_text c.args.self.now.look.now (symlink_parts c.args.self.now.stamp c.as_bytes.result.now) (parts_of c.args.path.now) c.in_ok-parts.parts c.in_ok-parts.ensures l.new.self.look.now (intended l.new.self.edits.now l.result) l.ensures.plans)

@@ -6,17 +6,17 @@ use Rattle.ft_posix.specs.Intended.{intended}
 use Rattle.ft_posix.proofs.Looking.{comes_lost, comes_on, comes_past}
 use Rattle.ft_calls.proofs.draft.Draft.symlink_parts.Goals as goal
 
-pub returns-in_err-spot : goal.returns-in_err-spot
-returns-in_err-spot c =
+pub returns-in_err-spot-clause-plans : goal.returns-in_err-spot-clause-plans
+returns-in_err-spot-clause-plans c =
     let p = err_from_is_err_and c.from_residual.result c.from_residual.ensures.1 in
     let go = make_link c.args.self.now.stamp c.args.target.now in
     let fault = target_fault c.args.target.now in
     let clear : fault ≡ None = search rules in
-    rw (p.1, p.2) (comes_past c.args.self.now.look fault (from_parts false (Ok c.args.parts.now) go) clear c.walk.new.self (Err c.in_err-spot.field-0.0) (comes_lost c.args.self.now.look (Ok c.args.parts.now) go false c.args.parts.now refl c.walk.new.self c.in_err-spot.field-0.0 c.in_err-spot.ensures))
+    rw (p.1, p.2) (comes_past c.args.self.now.look.now fault (from_parts false (Ok c.args.parts.now) go) clear c.walk.new.self (Err c.in_err-spot.field-0.0) (comes_lost c.args.self.now.look.now (Ok c.args.parts.now) go false c.args.parts.now refl c.walk.new.self c.in_err-spot.field-0.0 c.in_err-spot.ensures))
 
-pub returns : goal.returns
-returns c =
+pub returns-clause-plans : goal.returns-clause-plans
+returns-clause-plans c =
     let go = make_link c.args.self.now.stamp c.args.target.now in
     let fault = target_fault c.args.target.now in
     let clear : fault ≡ None = search rules in
-    (comes_past c.args.self.now.look fault (from_parts false (Ok c.args.parts.now) go) clear c.make_link.new.self.look (intended c.make_link.new.self.edits c.make_link.result) (comes_on c.args.self.now.look (Ok c.args.parts.now) go false c.args.parts.now refl c.walk.new.self c.in_ok-spot.spot c.in_ok-spot.ensures c.make_link.new.self.look (intended c.make_link.new.self.edits c.make_link.result) c.make_link.ensures))
+    (comes_past c.args.self.now.look.now fault (from_parts false (Ok c.args.parts.now) go) clear c.make_link.new.self.look.now (intended c.make_link.new.self.edits.now c.make_link.result) (comes_on c.args.self.now.look.now (Ok c.args.parts.now) go false c.args.parts.now refl c.walk.new.self c.in_ok-spot.spot c.in_ok-spot.ensures c.make_link.new.self.look.now (intended c.make_link.new.self.edits.now c.make_link.result) c.make_link.ensures.plans))

@@ -16,8 +16,8 @@ some_bytes : (old new : Looking) (r : Result Intent CallError) (limits : TreeLim
 some_bytes old new r limits fd [] o some h = absurd (some refl)
 some_bytes old new r limits fd (first ∷ more) o some h = h
 
-pub returns : goal.returns
-returns c =
-    some_bytes c.args.self.now.look c.write_at.new.self.look (intended c.write_at.new.self.edits c.write_at.result) c.args.limits c.args.fd c.args.bytes.now c.args.description (search rules)
-    (finds_then c.args.self.now.look (write_place c.args.description) (write_at c.args.limits c.args.fd c.args.description c.args.bytes.now) c.in_ok-place.place c.write_place.new.look c.write_at.new.self.look (intended c.write_at.new.self.edits c.write_at.result)
-    c.in_ok-place.ensures.0 c.in_ok-place.ensures.1 c.write_at.ensures)
+pub returns-clause-plans : goal.returns-clause-plans
+returns-clause-plans c =
+    some_bytes c.args.self.now.look.now c.write_at.new.self.look.now (intended c.write_at.new.self.edits.now c.write_at.result) c.args.limits c.args.fd c.args.bytes.now c.args.description (search rules)
+    (finds_then c.args.self.now.look.now (write_place c.args.description) (write_at c.args.limits c.args.fd c.args.description c.args.bytes.now) c.in_ok-place.place c.write_place.new.look c.write_at.new.self.look.now (intended c.write_at.new.self.edits.now c.write_at.result)
+    c.in_ok-place.ensures.0 c.in_ok-place.ensures.1 c.write_at.ensures.plans)

@@ -39,7 +39,7 @@ returns-then-live_children-gt0-clause-step c =
     let s : State = state_of i.parts.forest i.journal in
     let child = c.live_children.ensures.some (omega arith) in
     let some : has_live_child s c.args.txn ≡ true = some-child call_laws c.self.invariant.0 c.args.txn child.0 child.1 in
-    (step-child exact_rule c.args.self.now.state c.args.txn c.in_ok-check_live.ensures.live (ap (λ (q : State). has_live_child q c.args.txn) (sym (state-is c.self.view_is)) ∙ some)).1
+    step-child exact_rule c.args.self.now.state c.args.txn c.in_ok-check_live.ensures.live (ap (λ (q : State). has_live_child q c.args.txn) (sym (state-is c.self.view_is)) ∙ some)
 
 pub returns-in_err-stamp-clause-step : goal.returns-in_err-stamp-clause-step
 returns-in_err-stamp-clause-step c =

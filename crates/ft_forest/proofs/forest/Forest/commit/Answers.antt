@@ -34,7 +34,7 @@ pub end-requires-clause-no_child : goal.end-requires-clause-no_child
 end-requires-clause-no_child c =
     let is = count-is (goal.at.end-requires-clause-no_child c).After-children_of in
     let none : live_children_in c.args.self.now c.args.txn ≡ 0 = omega arith in
-    subst (λ m. live_children_in m c.args.txn ≡ 0 → (x : ℕ) → IsLiveChild m c.args.txn x → ⊥) c.self.view_is (no-child c.self.inside.limits c.self.inside.base c.self.inside.records c.self.invariant c.args.txn) none
+    no-child c.args.self.now c.args.txn none
 
 pub returns-clause-refused : goal.returns-clause-refused
 returns-clause-refused c =

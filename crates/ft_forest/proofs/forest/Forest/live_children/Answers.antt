@@ -12,10 +12,10 @@ returns-in-Some-clause-count c =
     ∙ ap (λ m. live_children_in m c.args.txn) c.self.view_is
 
 pub returns-in-Some-clause-some : goal.returns-in-Some-clause-some
-returns-in-Some-clause-some c = λ lt. subst (λ m. 0 < live_children_in m c.args.txn → (x : ℕ) × IsLiveChild m c.args.txn x) c.self.view_is (some-child c.self.inside.limits c.self.inside.base c.self.inside.records c.self.invariant c.args.txn) (subst (λ n. 0 < n) (returns-in-Some-clause-count c) lt)
+returns-in-Some-clause-some c = λ lt. some-child c.args.self.now c.args.txn (subst (λ n. 0 < n) (returns-in-Some-clause-count c) lt)
 
 pub returns-in-Some-clause-none : goal.returns-in-Some-clause-none
-returns-in-Some-clause-none c = λ none. subst (λ m. live_children_in m c.args.txn ≡ 0 → (x : ℕ) → IsLiveChild m c.args.txn x → ⊥) c.self.view_is (no-child c.self.inside.limits c.self.inside.base c.self.inside.records c.self.invariant c.args.txn) (sym (returns-in-Some-clause-count c) ∙ none)
+returns-in-Some-clause-none c = λ none. no-child c.args.self.now c.args.txn (sym (returns-in-Some-clause-count c) ∙ none)
 
 pub returns-in-None-clause-count : goal.returns-in-None-clause-count
 returns-in-None-clause-count c =
@@ -23,4 +23,4 @@ returns-in-None-clause-count c =
     sym (ap (λ m. live_children_in m c.args.txn) (sym c.self.view_is) ∙ absent-children c.self.inside.limits c.self.inside.base c.self.inside.records c.self.invariant c.args.txn (λ i lt. c.in-None.ensures.none i (subst (λ n. i < n) (sym count) lt)))
 
 pub returns-in-None-clause-none : goal.returns-in-None-clause-none
-returns-in-None-clause-none c = λ none. subst (λ m. live_children_in m c.args.txn ≡ 0 → (x : ℕ) → IsLiveChild m c.args.txn x → ⊥) c.self.view_is (no-child c.self.inside.limits c.self.inside.base c.self.inside.records c.self.invariant c.args.txn) (sym (returns-in-None-clause-count c))
+returns-in-None-clause-none c = λ none. no-child c.args.self.now c.args.txn (sym (returns-in-None-clause-count c))

@@ -11,7 +11,7 @@ returns-in_err-place-in-Some c =
     let base = c.self.inside.base in
     let r = c.self.inside.records in
     let count : c.len.result ≡ length r.list.items = c.len.ensures in
-    let none = no-child limits base r c.self.invariant c.in-Some.txn (absent-children limits base r c.self.invariant c.in-Some.txn (λ i lt. c.in_err-place-in-Some.ensures.none i (subst (λ n. i < n) (sym count) lt))) in
+    let none = no-child (transactions_of limits base r) c.in-Some.txn (absent-children limits base r c.self.invariant c.in-Some.txn (λ i lt. c.in_err-place-in-Some.ensures.none i (subst (λ n. i < n) (sym count) lt))) in
     subst (λ o. IsYoungestChild c.args.self.now c.args.parent o) (sym c.from_residual.ensures)
     (subst (λ m. IsYoungestChild m c.args.parent None) c.self.view_is (subst (λ p. IsYoungestChild (transactions_of limits base r) p None) (sym c.in-Some.is) none))
 

@@ -1,0 +1,11 @@
+// A run of the jobs of a plan.
+use ft_jobs::{Pace, Plan};
+
+/// The jobs of a plan, and how they are run.
+#[derive(Drop)]
+pub struct JobRun<'p, S> {
+    pub plan: &'p Plan,
+    pub pace: Pace,
+    /// Where it is shown how far they have come, if anywhere.
+    pub screen: Option<S>,
+}
