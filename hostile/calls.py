@@ -5,11 +5,11 @@ LARGEST_OFFSET = 2**63 - 1
 MOST_BYTES = 1_048_576
 MOST_FOLLOWED = 40
 
-# What a call is made with: a path that leads, mostly, to a file (E), to a directory (G), to a
+# The arguments of a call: a path that leads, mostly, to a file (E), to a directory (G), to a
 # link (L), to any of the three (P), to nothing (M), or to any of these (Q); a link's target (T);
 # a descriptor (F), a count (N), an offset or a length (I), data (D), how a file is opened (O),
 # from where an offset counts (W), a mode (A), which may be left out (B), an owner or a group (U),
-# and seconds (S) with nanoseconds (R). Beside it how often the call is chosen.
+# and seconds (S) with nanoseconds (R). The number says how often the call is chosen.
 VERBS = {
     "mkdir": ("BM", 12),
     "rmdir": ("G", 6),

@@ -56,7 +56,7 @@ def link_to(where):
     return lambda top, outside, path: os.symlink(f"{outside}/{where}", path)
 
 
-# What comes, and where.
+# The newcomers, and where they come.
 KINDS = {
     "a link to a file": ("d/f", link_to("f")),
     "a file": ("d/f", other_file),

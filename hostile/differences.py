@@ -19,7 +19,7 @@ LONGEST_NAME = 255
 # met is what the system was asked otherwise.
 Step = collections.namedtuple("Step", "call stamp ours theirs kinds start met")
 
-# What the rule is of, its source, and whether a step is so.
+# The subject of the rule, its source, and whether a step is so.
 Rule = collections.namedtuple("Rule", "name source applies")
 
 UNDEFINED_ORDER = "2.3 Error Numbers: of several errors any may be answered"

@@ -26,7 +26,7 @@ stat /b
 commit
 """
 
-# What each job makes, and the job around it.
+# The files that each job makes, and the job around it.
 MADE = {"a": "/a", "a1": "/a/p", "a2": "/a/q", "b": "/b"}
 AROUND = {"a1": "a", "a2": "a"}
 

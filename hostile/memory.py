@@ -10,8 +10,8 @@ import scripts
 
 REFUSED = b"refused Memory\n"
 
-# So many allocations more than it makes by itself a request is tried with behind reports, which
-# may leave less room behind.
+# So many allocations more than it makes by itself a request is tried with after reports, which
+# may leave less room.
 MORE = 3
 
 # A text begins with room for so many bytes, and has twice as many whenever it is full.

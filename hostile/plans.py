@@ -13,6 +13,18 @@ import playing
 # How many plans are run.
 TIMES = 100
 
+# The steps of a job that blocks others: it lists the directory in which all make something, looks
+# for a while, and then makes something there. So in most runs some wait for each other.
+IN_THE_WAY = "list /\n" + "try stat /{0}\n" * 60 + "mkdir /{0}\nlist /\ncommit\n"
+
+# Six such jobs, two of them in a job that holds no lock itself.
+HEADS = ("job a", "job b", "job d", "job e", "job c1 c", "job c2 c")
+JOBS = [head + "\n" + IN_THE_WAY.format(head.split()[1]) for head in HEADS]
+CONTENDED = "strict\njob c\nsubs\ncommit\n" + "".join(JOBS)
+
+# How often that plan is run.
+TIMES_CONTENDED = 20
+
 PATHS = ("/a", "/b", "/a/x", "/a/y", "/b/x")
 CALLS = ("mkdir {}", "rmdir {}", "stat {}", "list {}", "open wc {}", "unlink {}")
 
@@ -53,7 +65,11 @@ MISTAKES = [
 
 def tests():
     mistakes = [("a line that is wrong is named", named_lines), ("so is any", any_lines)]
-    return [("strict plans keep their rules", strict_plans), *mistakes]
+    plans = [
+        ("strict plans keep their rules", strict_plans),
+        ("a contended plan loses no job", contended_plan),
+    ]
+    return [*plans, *mistakes]
 
 
 def named_lines(bench):
@@ -80,12 +96,12 @@ def any_lines(bench):
     return None
 
 
-def run_text(bench, text):
+def run_text(bench, text, words=()):
     """Runs the jobs of a text. What came of it, and the name of the file."""
     with tempfile.NamedTemporaryFile(suffix=".plan") as file:
         file.write(text.encode())
         file.flush()
-        return playing.run([bench.program, "jobs", file.name]), file.name
+        return playing.run([bench.program, "jobs", *words, file.name]), file.name
 
 
 def changed(chance, text):
@@ -119,6 +135,8 @@ def fault_of_plan(bench, jobs, words):
         ran = playing.run([bench.program, "jobs", *words, file.name])
     if ran.status not in (0, 3) or ran.errors:
         return f"{ran}"
+    if has_many_tries(ran.text.decode(), int(words[words.index("--retries") + 1])):
+        return f"{ran}"
     told = told_by(jobs, ran.text.decode())
     if ran.status != (0 if all(map(is_met, told.values())) else 3):
         return f"{ran}"
@@ -126,12 +144,29 @@ def fault_of_plan(bench, jobs, words):
     return next((f"{name} {why}: {ran}" for name, why in faults if why is not None), None)
 
 
+def contended_plan(bench, times=TIMES_CONTENDED, words=("--retries", "100")):
+    """All jobs commit, however often some of them are begun again."""
+    for _ in range(times):
+        ran, _ = run_text(bench, CONTENDED, words)
+        ends = re.findall(r"^job \S+ \S+ (.*)$", ran.text.decode(), re.MULTILINE)
+        if ran.status != 0 or ran.errors or ends != ["committed"] * (1 + len(JOBS)):
+            return f"{ran}"
+    return None
+
+
+def has_many_tries(text, most):
+    """Whether a job was begun again more often than it may be."""
+    tries = collections.Counter(re.findall(r"^try (\S+) \d+ deadlock$", text, re.MULTILINE))
+    return any(count > most for count in tries.values())
+
+
 # ---- plans by chance
 
 
 def flags(chance):
     rule = ["--moss"] if chance.random() < 0.3 else []
-    return rule + ["--turns", chance.choice("125"), "--threads", chance.choice(("1", "2", "64"))]
+    often = ["--turns", chance.choice("125"), "--retries", chance.choice("012")]
+    return rule + often + ["--threads", chance.choice(("1", "2", "64"))]
 
 
 def some_jobs(chance):
@@ -222,6 +257,9 @@ def fault_of_job(job, jobs, told):
 
 def fault_of_failure(job, mine, has_failed, is_spared):
     """Why a job can't have failed as reported, or nothing."""
+    if mine.end == "deadlock":
+        is_right = not has_failed and len(mine.calls) < len(made(job.steps))
+        return None if is_right else "was in no deadlock"
     before = job.steps[: int(mine.end.removeprefix("failed ")) - 1]
     step = job.steps[len(before)]
     if step == "subs":
@@ -248,4 +286,4 @@ def may_be_unstarted(job, jobs, told):
     end = told[around.name].end
     if end.startswith("failed "):
         return "subs" not in around.steps[: int(end.removeprefix("failed "))]
-    return end == "notstarted"
+    return end in ("notstarted", "deadlock")

@@ -14,7 +14,7 @@ GREATEST_DEPTH = 4_096
 # the square takes sixteen times as many.
 MOST_GROWTH = 5
 
-# What counts the instructions of a program, and says on standard error how many there were.
+# The command that counts the instructions of a program, and prints them to standard error.
 COUNTER = ["valgrind", "--tool=callgrind", "--callgrind-out-file=/dev/null"]
 
 

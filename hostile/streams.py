@@ -2,7 +2,7 @@
 import playing
 import scripts
 
-# What reads and writes are tried with: files, locks and transactions of every kind of reply.
+# The scripts for reads and writes: files, locks and transactions of every kind of reply.
 TRIED = ["files_are_written_and_read", "locks_held_and_retained", "deadlock_is_reported"]
 
 

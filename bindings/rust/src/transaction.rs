@@ -47,7 +47,7 @@ pub enum Kind {
     Symlink,
 }
 
-/// What `stat` reports about a file, a directory or a symbolic link.
+/// The report of `stat` about a file, a directory or a symbolic link.
 #[derive(Clone, Copy, Debug, PartialEq, Eq)]
 #[non_exhaustive]
 pub struct Metadata {

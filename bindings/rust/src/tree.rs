@@ -19,7 +19,7 @@ const PAUSE_EACH: Duration = Duration::from_millis(5);
 /// With how many waiting calls they wait in turn. A turn takes time for each pair of them.
 const MOST_TURNS: u32 = 32;
 
-/// Which locks block a call.
+/// The rule that says which locks block a call.
 #[derive(Clone, Copy, Debug, Default, PartialEq, Eq)]
 pub enum Rule {
     /// Those of transactions that are neither the caller nor around it.
@@ -231,7 +231,7 @@ impl Shared {
     /// Carries out one line of a script without waiting, and returns the text of the reply. The
     /// line may also be a report, such as `tree`, `locks` or `waits`. A line may end a transaction
     /// of which somebody has a [`Transaction`]: its requests are then refused. A call that has to
-    /// wait is kept until a line drops it, and others may wait behind it.
+    /// wait is kept until a line drops it, and others may wait for its turn.
     ///
     /// # Errors
     ///
@@ -253,7 +253,7 @@ impl Shared {
             .unwrap_or_else(PoisonError::into_inner)
     }
 
-    /// Forgets the call that a transaction waits for, behind which others may wait.
+    /// Forgets the call that a transaction waits for, and for whose turn others may wait.
     fn forget(&self, handle: &mut Handle, txn: u64) {
         handle.cancel(txn);
         self.inner.ended.notify_all();

@@ -52,8 +52,8 @@ pub fn read_beside<J: Sharing + Send + Sync, R: Threads + Wait + Clock + Sync>(
         bail!("the views have no name");
     };
     let (run, seen) = side_by_side(rt, alloc, plan, &shared, reader);
-    let core = shared.into_core(rt);
-    let outcome = JobsOutcome::checked(alloc, plan, core, run?)?;
+    let (core, victims) = shared.into_parts(rt);
+    let outcome = JobsOutcome::checked(alloc, plan, core, victims, run?)?;
     Ok((outcome.reports.len(), seen?))
 }
 

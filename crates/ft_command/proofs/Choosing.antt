@@ -32,7 +32,7 @@ choice_of_matches words m choice free rows h = go choice (subst (Î» met. ReadCho
     go (Play strict rule after limits) h = (free, h)
     go Dot h = (free, h)
     go (Load dir skip check set_id quiet limits) h = (free, h)
-    go (Save dir set_id no_owners quiet limits) h = (free, h)
+    go (Save dir how limits) h = (free, h)
     go (Jobs file pace quiet rule after limits) h = (free, h)
     go (Help text) h = absurd h
     go (Usage text) h = inr (free, h)
@@ -42,7 +42,7 @@ pub choice_of_error : (words : List Text) (kind : ErrorKind) (choice : Choice) â
 choice_of_error words kind (Play strict rule after limits) among h = absurd h
 choice_of_error words kind Dot among h = absurd h
 choice_of_error words kind (Load dir skip check set_id quiet limits) among h = absurd h
-choice_of_error words kind (Save dir set_id no_owners quiet limits) among h = absurd h
+choice_of_error words kind (Save dir how limits) among h = absurd h
 choice_of_error words kind (Jobs file pace quiet rule after limits) among h = absurd h
 choice_of_error words kind (Help text) (inl is) (inl help) = cc
 choice_of_error words kind (Help text) (inl is) (inr version) = cc

@@ -13,6 +13,7 @@ use Rattle.ft_lock_rules.specs.Rules.{is_strict}
 use Rattle.ft_command.specs.Limits.{HasBadLimit, TellsLimits, limited}
 use Rattle.ft_command.specs.declared.limits.AskedLimits.{AskedLimits}
 use Rattle.ft_command.specs.declared.choice.AskedPace.{AskedPace}
+use Rattle.ft_command.specs.declared.choice.AskedSave.{AskedSave}
 use Rattle.ft_command.specs.declared.choice.Choice.{Choice}
 use Rattle.ft_command.specs.declared.choice.Choice.TheVariants.{Play, Dot, Load, Save, Jobs, Help, Usage, Fault}
 
@@ -23,6 +24,10 @@ file_rule = record (new_rule (codes "file")) { required = true; value_names = 1 
 -- how often a call asks at most: `--turns N`, from 1 to 1,000,000, and 10,000 if it is not named
 abbrev pub turns_rule : Rule
 turns_rule = record (new_rule (codes "turns")) { long = Some (codes "turns"); value_names = 1; parser = Some (Unsigned 1 1000000); defaults = codes "10000" ∷ [] }
+
+-- how often a job is begun again at most: `--retries N`, from 0 to 1,000,000
+abbrev pub retries_rule : Rule
+retries_rule = record (new_rule (codes "retries")) { long = Some (codes "retries"); value_names = 1; parser = Some (Unsigned 0 1000000) }
 
 -- how many threads run jobs at most: `--threads N`, from 1 to 4,096, and 64 if it is not named
 abbrev pub threads_rule : Rule
@@ -56,6 +61,22 @@ set_id_rule = record (new_rule (codes "set-id")) { long = Some (codes "set-id");
 abbrev pub no_owners_rule : Rule
 no_owners_rule = record (new_rule (codes "no-owners")) { long = Some (codes "no-owners"); action = Some SetTrue }
 
+-- `--sync`: a save survives a power failure
+abbrev pub sync_rule : Rule
+sync_rule = record (new_rule (codes "sync")) { long = Some (codes "sync"); action = Some SetTrue }
+
+-- `--into`: a directory that exists is changed
+abbrev pub into_rule : Rule
+into_rule = record (new_rule (codes "into")) { long = Some (codes "into"); action = Some SetTrue }
+
+-- `--remove`: what the tree does not have is removed
+abbrev pub remove_rule : Rule
+remove_rule = record (new_rule (codes "remove")) { long = Some (codes "remove"); action = Some SetTrue }
+
+-- `--dry-run`: the steps are listed, and nothing is done
+abbrev pub dry_run_rule : Rule
+dry_run_rule = record (new_rule (codes "dry-run")) { long = Some (codes "dry-run"); action = Some SetTrue }
+
 -- `--after FILE`: a script is played first
 abbrev pub after_rule : Rule
 after_rule = record (new_rule (codes "after")) { long = Some (codes "after"); value_names = 1 }
@@ -77,14 +98,18 @@ dot = limited (new_app (codes "dot"))
 abbrev pub load : App
 load = limited (with_rule (with_rule (with_rule (with_rule (with_rule (new_app (codes "load")) dir_rule) skip_rule) check_rule) set_id_rule) quiet_rule)
 
--- `save`, which needs a directory and may have `--set-id`, `--no-owners` and `--quiet`
-abbrev pub save : App
-save = limited (with_rule (with_rule (with_rule (with_rule (new_app (codes "save")) dir_rule) set_id_rule) no_owners_rule) quiet_rule)
+-- `save` to a new directory, which may have `--set-id`, `--no-owners`, `--quiet` and `--sync`
+abbrev pub save_new : App
+save_new = with_rule (with_rule (with_rule (with_rule (with_rule (new_app (codes "save")) dir_rule) set_id_rule) no_owners_rule) quiet_rule) sync_rule
 
--- `jobs`, which needs a file and may have `--turns N`, `--quiet`, `--moss`, `--after FILE` and
--- `--threads N`
+-- `save`, which may have `--into`, `--remove` and `--dry-run` too
+abbrev pub save : App
+save = limited (with_rule (with_rule (with_rule save_new into_rule) remove_rule) dry_run_rule)
+
+-- `jobs`, which needs a file and may have `--turns N`, `--quiet`, `--moss`, `--after FILE`,
+-- `--threads N` and `--retries N`
 abbrev pub jobs : App
-jobs = limited (with_rule (with_rule (with_rule (with_rule (with_rule (with_rule (new_app (codes "jobs")) file_rule) turns_rule) quiet_rule) moss_rule) after_rule) threads_rule)
+jobs = limited (with_rule (with_rule (with_rule (with_rule (with_rule (with_rule (with_rule (new_app (codes "jobs")) file_rule) turns_rule) quiet_rule) moss_rule) after_rule) threads_rule) retries_rule)
 
 -- no argument of the command is one of its subcommands too
 abbrev pub HasNoGlobals : Command → Type 0
@@ -122,12 +147,17 @@ IsFlag (Some text) flag = (text ≡ codes "true" → flag ≡ true) × (text ≡
 abbrev pub TellsNumber : Text → List Row → ℕ → Type 0
 TellsNumber name found number = (digits : Text) × (one_of name found ≡ Some digits) × (number ≡ digits_value 10 (without_leading_plus digits))
 
+-- The number of this name is that of the digits that were found, and there is none if nothing was.
+abbrev pub TellsNumberIfAny : Text → List Row → Option ℕ → Type 0
+TellsNumberIfAny name found None = first_of name found ≡ None
+TellsNumberIfAny name found (Some number) = TellsNumber name found number
+
 -- The file and the pace are those that were found (clap's `first_of`), there is at least one turn,
 -- and it is quiet if that flag is given.
 abbrev pub TellsJobs : List Row → Text → AskedPace → Bool → Type 0
 TellsJobs found file pace quiet =
     (first_of (codes "file") found ≡ Some file) × TellsNumber (codes "turns") found pace.turns × (1 ≤ pace.turns)
-    × TellsNumber (codes "threads") found pace.threads × IsFlag (one_of (codes "quiet") found) quiet
+    × TellsNumber (codes "threads") found pace.threads × TellsNumberIfAny (codes "retries") found pace.retries × IsFlag (one_of (codes "quiet") found) quiet
 
 -- the rule is `Moss` if the flag `--moss` is given, and else `Profile`
 abbrev pub TellsRule : List Row → LockRule → Type 0
@@ -141,8 +171,25 @@ TellsAfter found after = after ≡ first_of (codes "after") found
 abbrev pub TellsDir : List Row → Text → Type 0
 TellsDir found dir = first_of (codes "dir") found ≡ Some dir
 
+-- how a directory is to be made: each flag is as it was found
+pub record TellsSave (found : List Row) (how : AskedSave) : Type 0 where
+  pub set_id : IsFlag (one_of (codes "set-id") found) how.set_id
+  pub no_owners : IsFlag (one_of (codes "no-owners") found) how.no_owners
+  pub quiet : IsFlag (one_of (codes "quiet") found) how.quiet
+  pub sync : IsFlag (one_of (codes "sync") found) how.sync
+  pub into : IsFlag (one_of (codes "into") found) how.into
+  pub remove : IsFlag (one_of (codes "remove") found) how.remove
+  pub dry_run : IsFlag (one_of (codes "dry-run") found) how.dry_run
+
+-- `--remove` or `--dry-run` is given without `--into`
+abbrev pub IsWithoutInto : AskedSave → Type 0
+IsWithoutInto how = (how.into ≡ false) × ((how.remove ≡ true) ⊎ (how.dry_run ≡ true))
+
+abbrev pub LacksInto : List Row → Type 0
+LacksInto found = (how : AskedSave) × TellsSave found how × IsWithoutInto how
+
 -- The choice if the words name this subcommand: a usage text only if the value of a flag is no
--- limit.
+-- limit, or if `save` lacks `--into`.
 abbrev pub ReadChoice : Met → Choice → Type 0
 ReadChoice met (Play strict rule after limits) =
     (found : List Row) × (met ≡ Some (codes "play", found)) × IsFlag (one_of (codes "strict") found) strict × TellsRule found rule × TellsAfter found (option_map string_bytes after) × TellsLimits found limits
@@ -150,13 +197,12 @@ ReadChoice met Dot = (found : List Row) × (met ≡ Some (codes "dot", found)) �
 ReadChoice met (Load dir skip check set_id quiet limits) =
     (found : List Row) × (met ≡ Some (codes "load", found)) × TellsDir found (string_bytes dir) × IsFlag (one_of (codes "skip") found) skip × IsFlag (one_of (codes "check") found) check
     × IsFlag (one_of (codes "set-id") found) set_id × IsFlag (one_of (codes "quiet") found) quiet × TellsLimits found limits
-ReadChoice met (Save dir set_id no_owners quiet limits) =
-    (found : List Row) × (met ≡ Some (codes "save", found)) × TellsDir found (string_bytes dir) × IsFlag (one_of (codes "set-id") found) set_id
-    × IsFlag (one_of (codes "no-owners") found) no_owners × IsFlag (one_of (codes "quiet") found) quiet × TellsLimits found limits
+ReadChoice met (Save dir how limits) =
+    (found : List Row) × (met ≡ Some (codes "save", found)) × TellsDir found (string_bytes dir) × TellsSave found how × (¬ IsWithoutInto how) × TellsLimits found limits
 ReadChoice met (Jobs file pace quiet rule after limits) =
     (found : List Row) × (met ≡ Some (codes "jobs", found)) × TellsJobs found (string_bytes file) pace quiet × TellsRule found rule × TellsAfter found (option_map string_bytes after) × TellsLimits found limits
 ReadChoice met (Help text) = ⊥
-ReadChoice met (Usage text) = (name : Text) × (found : List Row) × (met ≡ Some (name, found)) × HasBadLimit found
+ReadChoice met (Usage text) = (name : Text) × (found : List Row) × (met ≡ Some (name, found)) × (HasBadLimit found ⊎ ((name ≡ codes "save") × LacksInto found))
 ReadChoice met Fault = Unit {0}
 
 -- help or the version was asked for
@@ -169,7 +215,7 @@ abbrev pub ErrorChoice : ErrorKind → Choice → Type 0
 ErrorChoice kind (Play strict rule after limits) = ⊥
 ErrorChoice kind Dot = ⊥
 ErrorChoice kind (Load dir skip check set_id quiet limits) = ⊥
-ErrorChoice kind (Save dir set_id no_owners quiet limits) = ⊥
+ErrorChoice kind (Save dir how limits) = ⊥
 ErrorChoice kind (Jobs file pace quiet rule after limits) = ⊥
 ErrorChoice kind (Help text) = IsRequest kind
 ErrorChoice kind (Usage text) = (¬ IsRequest kind) × (kind ≢ OutOfMemory)
@@ -181,12 +227,13 @@ abbrev pub IsCommand : List Text → Choice → Type 0
 IsCommand words choice = (fault_of program words ≡ []) × ReadChoice (subcommand_of program words) choice
 
 -- The choice that words ask for: a subcommand only if they name just that, a help text only if help
--- or the version was asked for, a usage text only at another error or at a value that is no limit.
+-- or the version was asked for, a usage text only at another error, at a value that is no limit, or
+-- if `--into` is lacking.
 abbrev pub ChoiceOf : List Text → Choice → Type 0
 ChoiceOf words (Play strict rule after limits) = IsCommand words (Play strict rule after limits)
 ChoiceOf words Dot = IsCommand words Dot
 ChoiceOf words (Load dir skip check set_id quiet limits) = IsCommand words (Load dir skip check set_id quiet limits)
-ChoiceOf words (Save dir set_id no_owners quiet limits) = IsCommand words (Save dir set_id no_owners quiet limits)
+ChoiceOf words (Save dir how limits) = IsCommand words (Save dir how limits)
 ChoiceOf words (Jobs file pace quiet rule after limits) = IsCommand words (Jobs file pace quiet rule after limits)
 ChoiceOf words (Help text) = (kind : ErrorKind) × IsAmong kind (fault_of program words) × IsRequest kind
 ChoiceOf words (Usage text) = ((kind : ErrorKind) × IsAmong kind (fault_of program words) × (¬ IsRequest kind)) ⊎ IsCommand words (Usage text)

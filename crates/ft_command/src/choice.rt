@@ -1,8 +1,8 @@
 // The task that a command line requests.
-ghost use Rattle.std.specs.Prelude.{◌≡◌, IfOk, IfSome, Some, codes, false, map, option_map, string_bytes};
-ghost use Rattle.clap.specs.Words.{Text, app_of, found_of, kind_of, one_of, rows_of, rule_of, subcommand_rows_of};
+ghost use Rattle.std.specs.Prelude.{◌≡◌, IfOk, IfSome, IsFalse, IsTrue, List, Some, codes, false, map, option_map, string_bytes};
+ghost use Rattle.clap.specs.Words.{Row, Text, app_of, found_of, kind_of, one_of, rows_of, rule_of, subcommand_rows_of};
 ghost use Rattle.ft_command.specs.Limits.{IsBadLimit};
-ghost use Rattle.ft_command.specs.CommandLine.{ChoiceOf, ErrorChoice, HasNoGlobals, IsFlag, ReadChoice, TellsAfter, TellsDir, TellsJobs, TellsRule, after_rule, bare, check_rule, dir_rule, dot, file_rule, jobs, load, moss_rule, play, program, no_owners_rule, quiet_rule, save, set_id_rule, skip_rule, strict_rule, threads_rule, turns_rule, with_filters, with_folders};
+ghost use Rattle.ft_command.specs.CommandLine.{ChoiceOf, ErrorChoice, HasNoGlobals, IsFlag, IsWithoutInto, LacksInto, ReadChoice, TellsAfter, TellsDir, TellsJobs, TellsNumberIfAny, TellsRule, TellsSave, after_rule, bare, check_rule, dir_rule, dot, dry_run_rule, file_rule, into_rule, jobs, load, moss_rule, no_owners_rule, play, program, quiet_rule, remove_rule, retries_rule, save, set_id_rule, skip_rule, strict_rule, sync_rule, threads_rule, turns_rule, with_filters, with_folders};
 
 use crate::limits::{AskedLimits, Flag, asked_limits, with_limits};
 use clap::builder::ValueParser;
@@ -37,15 +37,11 @@ pub enum Choice {
         quiet: bool,
         limits: AskedLimits,
     },
-    /// Make this directory of the tree with which replies end. Modes have their bits S_ISUID and
-    /// S_ISGID only if these are requested, and no owner and no group is set if that is not wanted.
-    /// Progress is not shown if it is to be quiet. A file that is larger than these limits allow is
-    /// refused.
+    /// Make this directory of the tree with which replies end. A file that is larger than these
+    /// limits allow is refused.
     Save {
         dir: String,
-        set_id: bool,
-        no_owners: bool,
-        quiet: bool,
+        how: AskedSave,
         limits: AskedLimits,
     },
     /// Run the jobs of the plan in a file, at this pace. Progress is not shown if it is to be
@@ -67,6 +63,25 @@ pub enum Choice {
     Fault,
 }
 
+/// How a directory is to be made of a tree.
+#[derive(Clone, Copy, Debug, PartialEq, Eq)]
+pub struct AskedSave {
+    /// Modes have their bits S_ISUID and S_ISGID.
+    pub set_id: bool,
+    /// No owner and no group is set.
+    pub no_owners: bool,
+    /// Progress is not shown.
+    pub quiet: bool,
+    /// It survives a power failure after the end.
+    pub sync: bool,
+    /// The directory exists, and only what differs is made.
+    pub into: bool,
+    /// What the tree does not have is removed.
+    pub remove: bool,
+    /// The steps are listed, and nothing is done.
+    pub dry_run: bool,
+}
+
 /// How the jobs of a plan are to be run.
 #[derive(Clone, Copy, Debug, PartialEq, Eq)]
 pub struct AskedPace {
@@ -74,6 +89,8 @@ pub struct AskedPace {
     pub turns: u64,
     /// At most so many threads run them.
     pub threads: u64,
+    /// One that is aborted to break a deadlock is begun again at most so many times.
+    pub retries: Option<u64>,
 }
 
 /// Examples: a script is run, its waits-for edges are drawn, the jobs of a plan are run, and jobs
@@ -85,15 +102,22 @@ const EXAMPLE: &str = "Example:\n  ft play < script.ft\n  \
 /// The version of the program, which is that of the library.
 const VERSION: &str = "0.1.0";
 
+/// The text between a mistake and a usage.
+const USAGE: &str = "\n\nUsage: ";
+
 /// The greatest number of attempts that may be set for a call of a job.
 const MOST_TURNS: u64 = 1_000_000;
 
 /// The most threads that jobs may be given.
 const MOST_THREADS: u64 = 4096;
 
+/// The greatest number of retries that may be set for a job.
+const MOST_RETRIES: u64 = 1_000_000;
+
 /// Returns the task that the arguments after the program's name request.
 ///
-/// The texts are those of the crate that reads the arguments.
+/// The texts are those of the crate that reads the arguments. At a wrong subcommand, a list of the
+/// right ones is added.
 pub fn choose<'a, S: AsStr>(alloc: Global, words: &'a [S]) -> Choice
     ensures { ChoiceOf (map S.text words.entry.now) result }
 {
@@ -207,22 +231,55 @@ fn load_choice(alloc: Global, found: &ArgMatches) -> Choice
 fn save_choice(alloc: Global, found: &ArgMatches) -> Choice
     ensures { ReadChoice (Some (codes "save", rows_of (found_of found.now))) result }
 {
-    let set_id = found.get_flag("set-id");
-    let no_owners = found.get_flag("no-owners");
-    let quiet = found.get_flag("quiet");
+    let how = asked_save(found);
     let limits = match asked_limits(found) {
         Ok(limits) => limits,
         Err(flag) => return misused(alloc, found, flag),
     };
+    if lacks_into(how) {
+        return lacking_into(alloc);
+    }
     match asked_dir(alloc, found) {
-        Some(dir) => Choice::Save {
-            dir,
-            set_id,
-            no_owners,
-            quiet,
-            limits,
-        },
+        Some(dir) => Choice::Save { dir, how, limits },
         None => Choice::Fault,
+    }
+}
+
+/// Returns whether a flag that needs `--into` is given without it.
+fn lacks_into(how: AskedSave) -> bool
+    ensures yes { IsTrue result → IsWithoutInto how }
+    ensures no { IsFalse result → ¬ IsWithoutInto how }
+{
+    !how.into && (how.remove || how.dry_run)
+}
+
+/// Returns the choice in that case.
+fn lacking_into(alloc: Global) -> Choice
+    ensures { (found : List Row) → LacksInto found
+        → ReadChoice (Some (codes "save", found)) result }
+{
+    let text = String::from_str(
+        alloc,
+        "error: '--remove' and '--dry-run' need '--into'\n\nFor more information, try '--help'.\n",
+    );
+    match text {
+        Ok(text) => Choice::Usage(text),
+        Err(_) => Choice::Fault,
+    }
+}
+
+/// Returns how a directory is to be made.
+fn asked_save(found: &ArgMatches) -> AskedSave
+    ensures { TellsSave (rows_of (found_of found.now)) result }
+{
+    AskedSave {
+        set_id: found.get_flag("set-id"),
+        no_owners: found.get_flag("no-owners"),
+        quiet: found.get_flag("quiet"),
+        sync: found.get_flag("sync"),
+        into: found.get_flag("into"),
+        remove: found.get_flag("remove"),
+        dry_run: found.get_flag("dry-run"),
     }
 }
 
@@ -306,8 +363,26 @@ fn asked_of_jobs(alloc: Global, found: &ArgMatches) -> Option<(String, AskedPace
         return None;
     }
     let threads = found.get_one::<u64>("threads")?;
+    let retries = asked_retries(found)?;
     let file = String::from_str(alloc, file).ok()?;
-    Some((file, AskedPace { turns, threads }, found.get_flag("quiet")))
+    let pace = AskedPace {
+        turns,
+        threads,
+        retries,
+    };
+    Some((file, pace, found.get_flag("quiet")))
+}
+
+/// Returns how often a job is begun again at most, if that is given. (The crate that reads the
+/// words lets only numbers through.)
+fn asked_retries(found: &ArgMatches) -> Option<Option<u64>>
+    ensures { IfSome result
+        (TellsNumberIfAny (codes "retries") (rows_of (found_of found.now))) }
+{
+    match found.get_str("retries") {
+        None => Some(None),
+        Some(_) => Some(Some(found.get_one::<u64>("retries")?)),
+    }
 }
 
 /// Returns the command line of the program.
@@ -333,7 +408,14 @@ fn with_filters<'a>(alloc: Global) -> Result<Command<'a>, AllocError>
 {
     let play = play_command(alloc)?;
     let dot = dot_command(alloc)?;
-    bare(alloc).subcommand(play)?.subcommand(dot)
+    named(alloc)?.subcommand(play)?.subcommand(dot)
+}
+
+/// Returns the command line without its subcommands, whose usages begin with the program's name.
+fn named<'a>(alloc: Global) -> Result<Command<'a>, AllocError>
+    ensures { IfOk result (λ command. app_of command ≡ bare) }
+{
+    bare(alloc).bin_name("ft")
 }
 
 /// Returns the command line without its subcommands.
@@ -397,7 +479,11 @@ fn save_command<'a>(alloc: Global) -> Result<Command<'a>, AllocError>
         .arg(dir_arg(alloc))?
         .arg(set_id_arg(alloc))?
         .arg(no_owners_arg(alloc))?
-        .arg(quiet_arg(alloc))?;
+        .arg(quiet_arg(alloc))?
+        .arg(sync_arg(alloc))?
+        .arg(into_arg(alloc))?
+        .arg(remove_arg(alloc))?
+        .arg(dry_run_arg(alloc))?;
     with_limits(alloc, command)
 }
 
@@ -413,7 +499,8 @@ fn jobs_command<'a>(alloc: Global) -> Result<Command<'a>, AllocError>
         .arg(quiet_arg(alloc))?
         .arg(moss_arg(alloc))?
         .arg(after_arg(alloc))?
-        .arg(threads_arg(alloc))?;
+        .arg(threads_arg(alloc))?
+        .arg(retries_arg(alloc))?;
     with_limits(alloc, command)
 }
 
@@ -470,6 +557,50 @@ fn no_owners_arg<'a>(alloc: Global) -> Arg<'a>
         .long("no-owners")
         .action(ArgAction::SetTrue)
         .help("Do not set owners and groups, even as the superuser")
+}
+
+/// Returns the flag that makes a save survive a power failure.
+fn sync_arg<'a>(alloc: Global) -> Arg<'a>
+    ensures rule { rule_of result ≡ sync_rule }
+    ensures local { result.global ≡ false }
+{
+    Arg::new(alloc, "sync")
+        .long("sync")
+        .action(ArgAction::SetTrue)
+        .help("Make it survive a power failure after the end")
+}
+
+/// Returns the flag that changes a directory that exists.
+fn into_arg<'a>(alloc: Global) -> Arg<'a>
+    ensures rule { rule_of result ≡ into_rule }
+    ensures local { result.global ≡ false }
+{
+    Arg::new(alloc, "into")
+        .long("into")
+        .action(ArgAction::SetTrue)
+        .help("Change a directory that exists, and list what differs")
+}
+
+/// Returns the flag that removes what the tree does not have.
+fn remove_arg<'a>(alloc: Global) -> Arg<'a>
+    ensures rule { rule_of result ≡ remove_rule }
+    ensures local { result.global ≡ false }
+{
+    Arg::new(alloc, "remove")
+        .long("remove")
+        .action(ArgAction::SetTrue)
+        .help("With --into, remove what the tree does not have")
+}
+
+/// Returns the flag that lists the steps and does nothing.
+fn dry_run_arg<'a>(alloc: Global) -> Arg<'a>
+    ensures rule { rule_of result ≡ dry_run_rule }
+    ensures local { result.global ≡ false }
+{
+    Arg::new(alloc, "dry-run")
+        .long("dry-run")
+        .action(ArgAction::SetTrue)
+        .help("With --into, only list what would be done")
 }
 
 /// Returns the flag that ends a run at the first line that does not do what it requests.
@@ -531,6 +662,18 @@ fn threads_arg<'a>(alloc: Global) -> Arg<'a>
         .help("Maximum number of threads that run jobs")
 }
 
+/// Returns how often a job is begun again at most.
+fn retries_arg<'a>(alloc: Global) -> Arg<'a>
+    ensures rule { rule_of result ≡ retries_rule }
+    ensures local { result.global ≡ false }
+{
+    Arg::new(alloc, "retries")
+        .long("retries")
+        .value_name("N")
+        .value_parser(ValueParser::unsigned(0, MOST_RETRIES))
+        .help("Break deadlocks, and begin a job again at most N times (strict plans: 10)")
+}
+
 /// Returns the flag that leaves out the progress.
 fn quiet_arg<'a>(alloc: Global) -> Arg<'a>
     ensures rule { rule_of result ≡ quiet_rule }
@@ -561,7 +704,7 @@ fn choice_at(alloc: Global, error: &Error) -> Choice
     if kind == ErrorKind::OutOfMemory {
         return Choice::Fault;
     }
-    match error.to_string(alloc) {
+    match text_of(alloc, error) {
         Err(_) => Choice::Fault,
         Ok(text) => {
             if kind == ErrorKind::DisplayHelp || kind == ErrorKind::DisplayVersion {
@@ -571,4 +714,32 @@ fn choice_at(alloc: Global, error: &Error) -> Choice
             }
         }
     }
+}
+
+/// Returns the text of an error. If a subcommand is wrong, it lists those that there are.
+fn text_of(alloc: Global, error: &Error) -> Result<String, AllocError> {
+    let text = error.to_string(alloc)?;
+    if error.kind() != ErrorKind::InvalidSubcommand {
+        return Ok(text);
+    }
+    match text.as_str().rsplit_once(USAGE) {
+        Some((mistake, usage)) => with_subcommands(alloc, mistake, usage),
+        None => Ok(text),
+    }
+}
+
+/// Returns the text of a mistake, followed by the list of subcommands and the usage. The list is
+/// written as at a lack of a subcommand.
+fn with_subcommands(alloc: Global, mistake: &str, usage: &str) -> Result<String, AllocError> {
+    let command = program(alloc)?;
+    let mut text = String::from_str(alloc, mistake)?;
+    text.push_str("\n  [subcommands: ")?;
+    for subcommand in command.get_subcommands() {
+        text.push_str(subcommand.get_name())?;
+        text.push_str(", ")?;
+    }
+    text.push_str("help]")?;
+    text.push_str(USAGE)?;
+    text.push_str(usage)?;
+    Ok(text)
 }

@@ -4,5 +4,5 @@
 mod choice;
 mod limits;
 
-pub use choice::{AskedPace, Choice, choose};
+pub use choice::{AskedPace, AskedSave, Choice, choose};
 pub use limits::AskedLimits;

@@ -19,7 +19,7 @@ use Rattle.ft_undo.specs.Logs.{is_open, AreLists, AreOpen}
 use Rattle.ft_forest.specs.declared.state.State.{State as Life}
 use Rattle.ft_forest.specs.declared.state.State.TheVariants.{Live as LiveState, Committed as CommittedState, Aborted as AbortedState}
 use Rattle.ft_forest.specs.Transactions.{Transactions, parent_in, state_in, over_in, is_live as is_live_in, HasEnded, HasAborted, IsAborting}
-use Rattle.ft_lock_rules.specs.Locks.{LockTable, has_lock, is_locked, is_released, is_opened, AreReleased}
+use Rattle.ft_lock_rules.specs.Locks.{LockTable, has_lock, is_kept, is_released, is_opened, AreReleased}
 use Rattle.ft_lock_rules.specs.Law.{AreDropped}
 use Rattle.ft_lock_rules.specs.Rules.{is_strict}
 use Rattle.ft_history.specs.Forest.{above}
@@ -76,7 +76,7 @@ module _ (W : CallLaws) (K : LockLaws) {base : Base} {h : History} {asks : Asks}
     pub journal : j ≡ record j₀ { asks = j.asks; subs = j.subs }
     -- whose turn has not come has its list
     pub waits : (x : ℕ) → state_in forest x ≡ Some LiveState → log x ≡ core.log x
-    pub accounted : IsAccounted (is_locked table) (is_released table) cells
+    pub accounted : IsAccounted (is_kept table) (is_released table) cells
 
   over-is : (forest : Transactions) → ((x : ℕ) → parent_in forest x ≡ parent posix_calls h x) → (x y : ℕ) → over_in forest x y ≡ over posix_calls h x y
   over-is forest parents x y = ap (λ (f : ℕ → Option ℕ). above f x y) (λ i z. parents z i)
@@ -137,13 +137,13 @@ module _ (W : CallLaws) (K : LockLaws) {base : Base} {h : History} {asks : Asks}
     pub below-back : (x : ℕ) → over posix_calls h t x ≡ true → over_in forest t x ≡ true
     below-back x below = over-is forest parents t x ∙ below
 
-    -- what the calls of a transaction wrote whose turn has not come is locked still
-    still-locked : (x : ℕ) → state_in forest x ≡ Some LiveState → (e : Item) → In e (way.log x) → (c : Cell) → writes_cell e.done.accesses c ≡ true → is_locked table c ≡ true
-    still-locked x live_x e i c writes =
+    -- what the calls of a transaction wrote whose turn has not come is kept still
+    still-kept : (x : ℕ) → state_in forest x ≡ Some LiveState → (e : Item) → In e (way.log x) → (c : Cell) → writes_cell e.done.accesses c ≡ true → is_kept table c ≡ true
+    still-kept x live_x e i c writes =
         let lock = has-lock W K core x e (subst (In e) (way.waits x live_x) i) c writes in
         let l = write_line x c lock.0 in
         let stays : way.gone x ≡ false = way.gone_is x (was-live x live_x) ∙ ap (λ o. over posix_calls h t x && not (is_live_in o)) live_x ∙ none (over posix_calls h t x) in
-        K.locked table l (way.dropped l ∙ (λ k. not (stays k) && lock.1 k))
+        K.known.written table l (way.dropped l ∙ (λ k. not (stays k) && lock.1 k)) refl
       where
         none : (b : Bool) → (b && not true) ≡ false
         none true = refl
@@ -161,7 +161,7 @@ module _ (W : CallLaws) (K : LockLaws) {base : Base} {h : History} {asks : Asks}
       one : IsListTaken W core.kept table t next m cells way.log (list_in lists next)
       one = list-taken W core.kept table t next (sym (over-is forest parents t next) ∙ under) (list_in lists next) m cells way.log (way.logs.logged next)
           (λ y a ne. way.ended y (not-live-in (state_in forest y) (λ now. ne (lowest y (over-is forest parents next y ∙ a) now))))
-          (way.logs.placed next) (still-locked next is_live) way.places way.accounted way.taking
+          (way.logs.placed next) (still-kept next is_live) way.places way.accounted way.taking
 
       -- its list can be taken back,
       pub can-take : CanTakeBack (list_in lists next) cells
@@ -211,7 +211,7 @@ module _ (W : CallLaws) (K : LockLaws) {base : Base} {h : History} {asks : Asks}
               ∙ sym (both (over posix_calls h t x) (is_live_in (state_in forest' x)) (ap (over posix_calls h t) is ∙ sym (over-is forest parents t next) ∙ under) (ap (λ y. is_live_in (state_in forest' y)) is ∙ state-next)))
               (λ ne. ap (λ b. b || way.gone x) (ne_eqb x next ne) ∙ way.gone_is x now ∙ ap (λ o. over posix_calls h t x && not (is_live_in o)) (sym (state-other x ne)));
           dropped = K.release table₀ table table' way.gone next way.dropped released;
-          opened = λ x e. let was = still-state x e in opened-other table table' next released.opened x was.0 (way.opened x was.1);
+          opened = λ x e. let was = still-state x e in opened-other table table' next released.freed.opened x was.0 (way.opened x was.1);
           listed = λ x e. let was = still-state x e in open-other lists lists' next open' x was.0 (way.listed x was.1);
           subs = λ x e. let was = still-state x e in ap (λ (q : Journaled). finite.get q.subs x) told ∙ removed-other j.subs next x was.0 ∙ way.subs x was.1;
           asks_live = λ x e. let ne = still x e in ap (λ (q : Journaled). finite.get q.asks x) told ∙ removed-other j.asks next x ne ∙ way.asks_live x (sym (ap is_live_in (state-other x ne)) ∙ e);
@@ -220,7 +220,7 @@ module _ (W : CallLaws) (K : LockLaws) {base : Base} {h : History} {asks : Asks}
               (λ ne. removed-other j.asks next x ne ∙ way.asks_ended x (sym (ap is_live_in (state-other x ne)) ∙ e));
           journal = shape told way.journal;
           waits = λ x e. let was = still-state x e in one.others x was.0 ∙ way.waits x was.1;
-          accounted = subst (IsAccounted (is_locked table') (is_released table')) (sym made) (still-accounted table table' (taken_back (list_in lists next) cells) (K.known.released table table' next released) one.accounted);
+          accounted = subst (IsAccounted (is_kept table') (is_released table')) (sym made) (still-accounted table table' (taken_back (list_in lists next) cells) (K.known.released table table' next released) one.accounted);
         }
           where
             both : (a b : Bool) → a ≡ true → b ≡ false → (a && not b) ≡ true

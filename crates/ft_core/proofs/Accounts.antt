@@ -1,6 +1,7 @@
 -- Each place of no use is known to the locks: what keeps it so, and what a sweep makes of it.
 use Rattle.std.proofs.Common.{◌≡◌, ◌⊎◌, inl, inr, ℕ, Bool, true, false, cond, not, ◌&&◌, ◌||◌, ◌==◌, List, [], ◌∷◌, Option, Some, None, is_some, is_none, unwrap_or, map, refl, sym, ap, subst, ◌∙◌}
-use Rattle.std.proofs.lemmas.Bool.{false≢true, and_parts, and_from, or_left, or_right}
+use Rattle.std.proofs.lemmas.Bool.{false≢true, and_parts, and_from, or_cases, or_left, or_right}
+use Rattle.std.proofs.lemmas.Option.{none-some}
 use Rattle.std.specs.Ordering.{nat_cmp}
 use Rattle.std.specs.Cmp.{nat_cmp_total, unsigned_tied}
 use Rattle.std.specs.Cmp.Lexicographic.{slice_cmp}
@@ -9,26 +10,25 @@ use Rattle.std.specs.List.{list_any}
 use Rattle.std.specs.FinMap as finite
 use Rattle.std.specs.FinSet as set
 use Rattle.ft_laws.specs.Effects.{is_written}
-use Rattle.ft_laws.proofs.Tests.{by_test}
+use Rattle.ft_laws.proofs.Tests.{by_test, by_option}
 use Rattle.ft_cells.specs.declared.node.Node.{Node}
 use Rattle.ft_cells.specs.declared.cell.Cell.{Cell}
 use Rattle.ft_cells.specs.declared.cell.Cell.TheVariants.{Entry, Names, Parent, Links, Bytes, Fd, DirAttributes, FileAttributes}
 use Rattle.ft_cells.specs.declared.open_file.OpenFile.{OpenFile}
-use Rattle.ft_cells.specs.CellOrder.{same_cell, same_cell-refl}
+use Rattle.ft_cells.specs.CellOrder.{same_cell, same_cell-refl, same_cell-is}
 use Rattle.ft_cells.specs.declared.limits.TreeLimits.{TreeLimits}
 use Rattle.ft_cells.specs.Cells.{Cells, DirCells, FileCells, no_dir, dir_of, is_there, has_file, fresh_cells}
 use Rattle.ft_tree.specs.Held.{held}
 use Rattle.ft_tree.specs.Sound.{AreSoundCells, IsFree}
 use Rattle.ft_tree.specs.Sweep.{is_useless, at_place, is_spare, IsAccounted, HasNoneToDrop}
 use Rattle.ft_posix.specs.declared.call.Access.{Access}
-use Rattle.ft_posix.specs.Accesses.{accesses_of}
-use Rattle.ft_posix.specs.Posix.{Stamped, as_place, does, names_file, posix, posix_calls}
+use Rattle.ft_posix.specs.Accesses.{is_write, accesses_of}
+use Rattle.ft_posix.specs.Posix.{Stamped, as_place, does, file_of, names_file, posix, posix_calls}
 use Rattle.ft_posix.specs.RunLaws.{writes_cell}
 use Rattle.ft_posix.specs.Leaving.{accesses_cell, IsOfOpenFile}
 use Rattle.ft_posix.proofs.Leaving.{at_place-more, same-place, dead-file, all-noted}
 use Rattle.ft_lock_rules.specs.declared.line.LockLine.{LockLine}
-use Rattle.ft_lock_rules.specs.Locks.{LockTable, is_locked, is_released, is_accessed, AreGranted}
-use Rattle.ft_lock_rules.specs.Knowing.{is_known}
+use Rattle.ft_lock_rules.specs.Locks.{LockTable, is_locked, is_released, is_kept_by, is_kept, may_be_useless, may_empty, may_empty_cell, AreGranted}
 use Rattle.ft_lock_rules.specs.Law.{AreLocksOf}
 use Rattle.ft_history.proofs.Losing.{LosesOwn}
 use Rattle.ft_history.proofs.Words.{not_true}
@@ -56,30 +56,30 @@ dir_rest p q d = three_rest (p (Names d)) (p (Parent d)) (p (DirAttributes d)) (
 file_rest : (p q : Cell → Bool) (i : ℕ) → at_place (λ x. p x || q x) (Links i) ≡ true → at_place p (Links i) ≡ false → at_place q (Links i) ≡ true
 file_rest p q i = three_rest (p (Links i)) (p (Bytes i)) (p (FileAttributes i)) (q (Links i)) (q (Bytes i)) (q (FileAttributes i))
 
--- what is known of a place, and locked at none of its cells, was let go
-let-go-rest : (t : LockTable) (c : Cell) → at_place (is_known t) c ≡ true → at_place (is_locked t) c ≡ false → at_place (is_released t) c ≡ true
-let-go-rest t (Entry entry) h f = one_rest (is_locked t (Entry entry)) (is_released t (Entry entry)) h f
-let-go-rest t (Names d) h f = dir_rest (is_locked t) (is_released t) d h f
-let-go-rest t (Parent d) h f = dir_rest (is_locked t) (is_released t) d h f
-let-go-rest t (Links i) h f = file_rest (is_locked t) (is_released t) i h f
-let-go-rest t (Bytes i) h f = file_rest (is_locked t) (is_released t) i h f
-let-go-rest t (Fd f) h g = one_rest (is_locked t (Fd f)) (is_released t (Fd f)) h g
-let-go-rest t (DirAttributes d) h f = dir_rest (is_locked t) (is_released t) d h f
-let-go-rest t (FileAttributes i) h f = file_rest (is_locked t) (is_released t) i h f
+-- a place that may be without use, of which no lock keeps a cell, was let go
+let-go-rest : (t : LockTable) (c : Cell) → at_place (may_be_useless t) c ≡ true → at_place (is_kept t) c ≡ false → at_place (is_released t) c ≡ true
+let-go-rest t (Entry entry) h f = one_rest (is_kept t (Entry entry)) (is_released t (Entry entry)) h f
+let-go-rest t (Names d) h f = dir_rest (is_kept t) (is_released t) d h f
+let-go-rest t (Parent d) h f = dir_rest (is_kept t) (is_released t) d h f
+let-go-rest t (Links i) h f = file_rest (is_kept t) (is_released t) i h f
+let-go-rest t (Bytes i) h f = file_rest (is_kept t) (is_released t) i h f
+let-go-rest t (Fd f) h g = one_rest (is_kept t (Fd f)) (is_released t (Fd f)) h g
+let-go-rest t (DirAttributes d) h f = dir_rest (is_kept t) (is_released t) d h f
+let-go-rest t (FileAttributes i) h f = file_rest (is_kept t) (is_released t) i h f
 
--- each place of no use is known
+-- each place of no use is known to the locks
 abbrev IsKnown : LockTable → Cells → Type 0
-IsKnown t cells = (c : Cell) → is_useless cells c ≡ true → at_place (is_known t) c ≡ true
+IsKnown t cells = (c : Cell) → is_useless cells c ≡ true → at_place (may_be_useless t) c ≡ true
 
-known-of : (t : LockTable) (cells : Cells) → IsAccounted (is_locked t) (is_released t) cells → IsKnown t cells
-known-of t cells all c u = by_test (at_place (is_locked t) c)
-    (λ k. at_place-more (is_locked t) (is_known t) (λ x e. or_left (is_locked t x) (is_released t x) e) c k)
-    (λ k. at_place-more (is_released t) (is_known t) (λ x e. or_right (is_locked t x) (is_released t x) e) c (all c (and_from (is_useless cells c) (not (at_place (is_locked t) c)) u (ap not k))))
+known-of : (t : LockTable) (cells : Cells) → IsAccounted (is_kept t) (is_released t) cells → IsKnown t cells
+known-of t cells all c u = by_test (at_place (is_kept t) c)
+    (λ k. at_place-more (is_kept t) (may_be_useless t) (λ x e. or_left (is_kept t x) (is_released t x) e) c k)
+    (λ k. at_place-more (is_released t) (may_be_useless t) (λ x e. or_right (is_kept t x) (is_released t x) e) c (all c (and_from (is_useless cells c) (not (at_place (is_kept t) c)) u (ap not k))))
 
-accounted-of : (t : LockTable) (cells : Cells) → IsKnown t cells → IsAccounted (is_locked t) (is_released t) cells
+accounted-of : (t : LockTable) (cells : Cells) → IsKnown t cells → IsAccounted (is_kept t) (is_released t) cells
 accounted-of t cells all c spare =
-    let parts = and_parts (is_useless cells c) (not (at_place (is_locked t) c)) spare in
-    let-go-rest t c (all c parts.0) (not_true (at_place (is_locked t) c) parts.1)
+    let parts = and_parts (is_useless cells c) (not (at_place (is_kept t) c)) spare in
+    let-go-rest t c (all c parts.0) (not_true (at_place (is_kept t) c) parts.1)
 
 -- At first.
 
@@ -123,23 +123,78 @@ module _ (limits : TreeLimits) where
   pub fresh-accounted : (kept released_cells : Cell → Bool) → IsAccounted kept released_cells (fresh_cells limits)
   fresh-accounted kept released_cells c spare = absurd (false≢true (sym (fresh-none c) ∙ (and_parts (is_useless (fresh_cells limits) c) (not (at_place kept c)) spare).0))
 
--- The locks change, and know what they knew.
+-- The locks change, and what may be without use stays so.
 
-pub still-accounted : (t t' : LockTable) (cells : Cells) → ((c : Cell) → is_known t c ≡ true → is_known t' c ≡ true) → IsAccounted (is_locked t) (is_released t) cells → IsAccounted (is_locked t') (is_released t') cells
-still-accounted t t' cells knows all = accounted-of t' cells (λ c u. at_place-more (is_known t) (is_known t') knows c (known-of t cells all c u))
+pub still-accounted : (t t' : LockTable) (cells : Cells) → ((c : Cell) → may_be_useless t c ≡ true → may_be_useless t' c ≡ true) → IsAccounted (is_kept t) (is_released t) cells → IsAccounted (is_kept t') (is_released t') cells
+still-accounted t t' cells knows all = accounted-of t' cells (λ c u. at_place-more (may_be_useless t) (may_be_useless t') knows c (known-of t cells all c u))
 
 -- A call is granted.
 
-accessed-is : (accesses : List Access) (c : Cell) → accesses_cell (map as_place accesses) c ≡ is_accessed accesses c
-accessed-is [] c = refl
-accessed-is (a ∷ accesses) c = λ i. same_cell a.cell c || accessed-is accesses c i
+-- what is written by an access may be emptied by it
+written-emptied : (accesses : List Access) (c : Cell) → writes_cell (map as_place accesses) c ≡ true → may_empty_cell accesses c ≡ true
+written-emptied [] c h = h
+written-emptied (a ∷ accesses) c h = elim (or_cases (same_cell a.cell c && is_write a.mode) (writes_cell (map as_place accesses) c) h) [
+  | inl here ↦
+      let parts = and_parts (same_cell a.cell c) (is_write a.mode) here in
+      or_left (same_cell a.cell c && may_empty a.cell a.mode) (may_empty_cell accesses c) (and_from (same_cell a.cell c) (may_empty a.cell a.mode) parts.0 (or_left (is_write a.mode) (is_some (file_of a.cell)) parts.1))
+  | inr later ↦ or_right (same_cell a.cell c && may_empty a.cell a.mode) (may_empty_cell accesses c) (written-emptied accesses c later)
+]
+
+-- and so may be what is accessed of a file
+accessed-emptied : (accesses : List Access) (c : Cell) → (accesses_cell (map as_place accesses) c && is_some (file_of c)) ≡ true → may_empty_cell accesses c ≡ true
+accessed-emptied accesses c h =
+    let parts = and_parts (accesses_cell (map as_place accesses) c) (is_some (file_of c)) h in
+    of_file accesses parts.0 parts.1
+  where
+    of_file : (xs : List Access) → accesses_cell (map as_place xs) c ≡ true → is_some (file_of c) ≡ true → may_empty_cell xs c ≡ true
+    of_file [] e f = e
+    of_file (a ∷ xs) e f = elim (or_cases (same_cell a.cell c) (accesses_cell (map as_place xs) c) e) [
+      | inl here ↦
+          or_left (same_cell a.cell c && may_empty a.cell a.mode) (may_empty_cell xs c)
+          (and_from (same_cell a.cell c) (may_empty a.cell a.mode) here (or_right (is_write a.mode) (is_some (file_of a.cell)) (ap (λ d. is_some (file_of d)) (same_cell-is a.cell c here) ∙ f)))
+      | inr later ↦ or_right (same_cell a.cell c && may_empty a.cell a.mode) (may_empty_cell xs c) (of_file xs later f)
+    ]
+
+and_true : (b : Bool) → b ≡ (b && true)
+and_true true = refl
+and_true false = refl
+
+-- the cells that share the place of a file's cell are of a file
+at-file-place : (p : Cell → Bool) (c : Cell) (i : ℕ) → file_of c ≡ Some i → at_place p c ≡ true → at_place (λ x. p x && is_some (file_of x)) c ≡ true
+at-file-place p (Entry entry) i e h = absurd (none-some i e)
+at-file-place p (Names d) i e h = absurd (none-some i e)
+at-file-place p (Parent d) i e h = absurd (none-some i e)
+at-file-place p (Links k) i e h = sym (λ j. and_true (p (Links k)) j || and_true (p (Bytes k)) j || and_true (p (FileAttributes k)) j) ∙ h
+at-file-place p (Bytes k) i e h = sym (λ j. and_true (p (Links k)) j || and_true (p (Bytes k)) j || and_true (p (FileAttributes k)) j) ∙ h
+at-file-place p (Fd f) i e h = absurd (none-some i e)
+at-file-place p (DirAttributes d) i e h = absurd (none-some i e)
+at-file-place p (FileAttributes k) i e h = sym (λ j. and_true (p (Links k)) j || and_true (p (Bytes k)) j || and_true (p (FileAttributes k)) j) ∙ h
+
+-- A cell that is useless after a call was useless before, or the call may have emptied a cell of its
+-- place: it writes the cell, or the cell is of a file. (A close only looks at the links of the file
+-- that it lets go.)
+useless-emptied : (W : CallLaws) (cells : Cells) (a : Stamped) (accesses : List Access) → AreSoundCells cells → IsFree cells a.stamp → accesses ≡ accesses_of cells a.stamp a.call → (c : Cell) → is_useless (posix_calls.act cells a) c ≡ true
+    → (is_useless cells c ≡ true) ⊎ (at_place (may_empty_cell accesses) c ≡ true)
+useless-emptied W cells a accesses sound free touched c u = by_option (file_of c)
+    (λ plain. elim (W.leaving cells (does cells a).writes c (subst (λ s. is_useless s c ≡ true) (sym (put-write cells (does cells a).writes)) u)) [
+      | inl was ↦ inl was
+      | inr left ↦ elim left [
+        | inl written ↦ inr (at_place-more (is_written posix (does cells a).writes) (may_empty_cell accesses)
+            (λ x h. written-emptied accesses x (subst (λ ys. writes_cell (map as_place ys) x ≡ true) (sym touched) (all-noted (does cells a).accesses (does cells a).writes (W.writes cells a) x h))) c written)
+        | inr shown ↦ absurd (none-some shown.file (sym plain ∙ shown.belongs))
+      ]
+    ])
+    (λ i of. elim (W.useless cells a sound free c u) [
+      | inl was ↦ inl was
+      | inr accessed ↦ inr (at_place-more (λ x. accesses_cell (map as_place accesses) x && is_some (file_of x)) (may_empty_cell accesses) (accessed-emptied accesses) c
+          (at-file-place (accesses_cell (map as_place accesses)) c i of (subst (λ ys. at_place (accesses_cell (map as_place ys)) c ≡ true) (sym touched) accessed)))
+    ])
 
 pub granted-accounted : (W : CallLaws) (K : LockLaws) (cells : Cells) (t t' : LockTable) (a : Stamped) (txn : ℕ) (accesses : List Access) → AreSoundCells cells → IsFree cells a.stamp → accesses ≡ accesses_of cells a.stamp a.call → AreGranted t t' txn accesses
-    → IsAccounted (is_locked t) (is_released t) cells → IsAccounted (is_locked t') (is_released t') (posix_calls.act cells a)
-granted-accounted W K cells t t' a txn accesses sound free touched granted all = accounted-of t' (posix_calls.act cells a) (λ c u. elim (W.useless cells a sound free c u) [
-  | inl was ↦ at_place-more (is_known t) (is_known t') (λ x e. K.known.granted t t' txn accesses granted x (or_left (is_known t x) (is_accessed accesses x) e)) c (known-of t cells all c was)
-  | inr accessed ↦ at_place-more (accesses_cell (does cells a).accesses) (is_known t')
-      (λ x e. K.known.granted t t' txn accesses granted x (or_right (is_known t x) (is_accessed accesses x) (sym (accessed-is accesses x) ∙ ap (λ f. accesses_cell (map as_place f) x) touched ∙ e))) c accessed
+    → IsAccounted (is_kept t) (is_released t) cells → IsAccounted (is_kept t') (is_released t') (posix_calls.act cells a)
+granted-accounted W K cells t t' a txn accesses sound free touched granted all = accounted-of t' (posix_calls.act cells a) (λ c u. elim (useless-emptied W cells a accesses sound free touched c u) [
+  | inl was ↦ at_place-more (may_be_useless t) (may_be_useless t') (λ x e. K.known.granted t t' txn accesses granted x (or_left (may_be_useless t x) (may_empty_cell accesses x) e)) c (known-of t cells all c was)
+  | inr emptied ↦ at_place-more (may_empty_cell accesses) (may_be_useless t') (λ x e. K.known.granted t t' txn accesses granted x (or_right (may_be_useless t x) (may_empty_cell accesses x) e)) c emptied
 ])
 
 -- A call is taken back, whose owner has its locks still.
@@ -154,48 +209,49 @@ pub not-named : (s : Cells) (i : ℕ) → ((x : Cell) → names_file x (held s x
 not-named s i none None = refl
 not-named s i none (Some x) = none x
 
-module _ (W : CallLaws) (cells : Cells) (e : Item) (own : IsOfWritten e) (t : LockTable) (locked : (c : Cell) → writes_cell e.done.accesses c ≡ true → is_locked t c ≡ true) where
+module _ (W : CallLaws) (cells : Cells) (e : Item) (own : IsOfWritten e) (t : LockTable) (locked : (c : Cell) → writes_cell e.done.accesses c ≡ true → is_kept t c ≡ true) where
   abbrev new : Cells
   new = posix_calls.revert cells e.inverse
 
-  written-known : (c : Cell) → writes_cell e.done.accesses c ≡ true → is_known t c ≡ true
-  written-known c h = or_left (is_locked t c) (is_released t c) (locked c h)
+  written-known : (c : Cell) → writes_cell e.done.accesses c ≡ true → may_be_useless t c ≡ true
+  written-known c h = or_left (is_kept t c) (is_released t c) (locked c h)
 
-  pub reverted-accounted : LosesOwn posix_calls cells new e.done → AreSoundCells new → IsAccounted (is_locked t) (is_released t) cells → IsAccounted (is_locked t) (is_released t) new
+  pub reverted-accounted : LosesOwn posix_calls cells new e.done → AreSoundCells new → IsAccounted (is_kept t) (is_released t) cells → IsAccounted (is_kept t) (is_released t) new
   reverted-accounted loses sound all = accounted-of t new (λ c u. by_left c u (W.leaving cells e.inverse.before c (subst (λ s. is_useless s c ≡ true) (sym (put-write cells e.inverse.before)) u)))
     where
       -- a file that was open is the call's own, so the call wrote to it
-      closed : (c : Cell) → is_useless new c ≡ true → IsOfOpenFile cells c → at_place (is_known t) c ≡ true
+      closed : (c : Cell) → is_useless new c ≡ true → IsOfOpenFile cells c → at_place (may_be_useless t) c ≡ true
       closed c u shown =
           let lost = loses (Some (Fd shown.descriptor)) shown.file shown.opened (not-named new shown.file (W.nameless new sound shown.file (dead-file new c shown.file shown.belongs u))) in
           let there = named-cell (posix_calls.act lost.store e.done.call) lost.cell e.done.call.stamp
           (subst (λ i. posix_calls.names lost.cell (posix_calls.cell (posix_calls.act lost.store e.done.call) lost.cell) i ≡ true) (sym lost.own) lost.named) in
           let made = W.making lost.store e.done.call lost.sound lost.ready there.0 there.1 in
-          same-place (is_known t) made.0 c shown.file (made.1 ∙ ap Some lost.own) shown.belongs (written-known made.0 (subst (λ f. writes_cell f made.0 ≡ true) lost.accesses made.2))
+          same-place (may_be_useless t) made.0 c shown.file (made.1 ∙ ap Some lost.own) shown.belongs (written-known made.0 (subst (λ f. writes_cell f made.0 ≡ true) lost.accesses made.2))
 
-      by_left : (c : Cell) → is_useless new c ≡ true → (is_useless cells c ≡ true) ⊎ ((at_place (is_written posix e.inverse.before) c ≡ true) ⊎ IsOfOpenFile cells c) → at_place (is_known t) c ≡ true
+      by_left : (c : Cell) → is_useless new c ≡ true → (is_useless cells c ≡ true) ⊎ ((at_place (is_written posix e.inverse.before) c ≡ true) ⊎ IsOfOpenFile cells c) → at_place (may_be_useless t) c ≡ true
       by_left c u (inl was) = known-of t cells all c was
-      by_left c u (inr (inl written)) = at_place-more (is_written posix e.inverse.before) (is_known t) (λ x h. written-known x (all-noted e.done.accesses e.inverse.before own.before x h)) c written
+      by_left c u (inr (inl written)) = at_place-more (is_written posix e.inverse.before) (may_be_useless t) (λ x h. written-known x (all-noted e.done.accesses e.inverse.before own.before x h)) c written
       by_left c u (inr (inr shown)) = closed c u shown
 
 -- A sweep leaves nothing to drop.
 
-pub swept-accounted : (t t' : LockTable) (cells : Cells) → t'.lines ≡ t.lines → HasNoneToDrop (is_locked t) cells → IsAccounted (is_locked t') (is_released t') cells
-swept-accounted t t' cells same none c spare = absurd (false≢true (sym (none c) ∙ ap (λ s. is_spare (λ x. list_any (λ (l : LockLine). same_cell l.cell x) (set.items s)) cells c) (sym same) ∙ spare))
+pub swept-accounted : (t t' : LockTable) (cells : Cells) → t'.lines ≡ t.lines → t'.keeps_all ≡ t.keeps_all → HasNoneToDrop (is_kept t) cells → IsAccounted (is_kept t') (is_released t') cells
+swept-accounted t t' cells same keeps_all none c spare =
+    absurd (false≢true (sym (none c) ∙ ap (λ (x : LockTable). is_spare (is_kept x) cells c) (λ i. record t { lines = sym same i; keeps_all = sym keeps_all i }) ∙ spare))
 
-none-locked : (p : Cell → Bool) → ((c : Cell) → p c ≡ false) → (c : Cell) → at_place p c ≡ false
-none-locked p none (Entry entry) = none (Entry entry)
-none-locked p none (Names d) = λ i. none (Names d) i || none (Parent d) i || none (DirAttributes d) i
-none-locked p none (Parent d) = λ i. none (Names d) i || none (Parent d) i || none (DirAttributes d) i
-none-locked p none (Links i) = λ j. none (Links i) j || none (Bytes i) j || none (FileAttributes i) j
-none-locked p none (Bytes i) = λ j. none (Links i) j || none (Bytes i) j || none (FileAttributes i) j
-none-locked p none (Fd f) = none (Fd f)
-none-locked p none (DirAttributes d) = λ i. none (Names d) i || none (Parent d) i || none (DirAttributes d) i
-none-locked p none (FileAttributes i) = λ j. none (Links i) j || none (Bytes i) j || none (FileAttributes i) j
+none-among : (p : Cell → Bool) → ((c : Cell) → p c ≡ false) → (c : Cell) → at_place p c ≡ false
+none-among p none (Entry entry) = none (Entry entry)
+none-among p none (Names d) = λ i. none (Names d) i || none (Parent d) i || none (DirAttributes d) i
+none-among p none (Parent d) = λ i. none (Names d) i || none (Parent d) i || none (DirAttributes d) i
+none-among p none (Links i) = λ j. none (Links i) j || none (Bytes i) j || none (FileAttributes i) j
+none-among p none (Bytes i) = λ j. none (Links i) j || none (Bytes i) j || none (FileAttributes i) j
+none-among p none (Fd f) = none (Fd f)
+none-among p none (DirAttributes d) = λ i. none (Names d) i || none (Parent d) i || none (DirAttributes d) i
+none-among p none (FileAttributes i) = λ j. none (Links i) j || none (Bytes i) j || none (FileAttributes i) j
 
-pub none-useless : (t : LockTable) (cells : Cells) → ((c : Cell) → is_locked t c ≡ false) → HasNoneToDrop (is_locked t) cells → (c : Cell) → is_useless cells c ≡ false
-none-useless t cells free none c = by_test (is_useless cells c)
-    (λ u. absurd (false≢true (sym (none c) ∙ and_from (is_useless cells c) (not (at_place (is_locked t) c)) u (ap not (none-locked (is_locked t) free c)))))
+pub none-useless : (kept : Cell → Bool) (cells : Cells) → ((c : Cell) → kept c ≡ false) → HasNoneToDrop kept cells → (c : Cell) → is_useless cells c ≡ false
+none-useless kept cells free none c = by_test (is_useless cells c)
+    (λ u. absurd (false≢true (sym (none c) ∙ and_from (is_useless cells c) (not (at_place kept c)) u (ap not (none-among kept free c)))))
     (λ u. u)
 
 -- A place among some has one of its cells among them.
@@ -243,10 +299,10 @@ placed-cell among (DirAttributes d) h = placed-dir among d h
 placed-cell among (FileAttributes i) h = placed-file among i h
 
 -- What a sweep leaves of no use is locked.
-pub useless-locked : (K : LockLaws) (s : State) (t : LockTable) (cells : Cells) → AreLocksOf (history s) t → HasNoneToDrop (is_locked t) cells → EachUselessIsLocked s cells
+pub useless-locked : (K : LockLaws) (s : State) (t : LockTable) (cells : Cells) → AreLocksOf (history s) t → HasNoneToDrop (is_kept t) cells → EachUselessIsLocked s cells
 useless-locked K s t cells locks none c useless =
-    let locked : at_place (is_locked t) c ≡ true = by_test (at_place (is_locked t) c) (λ k. k)
-    (λ free. absurd (false≢true (sym (none c) ∙ and_from (is_useless cells c) (not (at_place (is_locked t) c)) useless (ap not free)))) in
-    let placed = placed-cell (is_locked t) c locked in
-    let found = K.known.locked t placed.0 placed.1 in
+    let kept : at_place (is_kept t) c ≡ true = by_test (at_place (is_kept t) c) (λ k. k)
+    (λ free. absurd (false≢true (sym (none c) ∙ and_from (is_useless cells c) (not (at_place (is_kept t) c)) useless (ap not free)))) in
+    let placed = placed-cell (is_kept t) c kept in
+    let found = K.known.locked t placed.0 (K.known.kept t placed.0 placed.1) in
     (found.0, sym (locks found.0) ∙ found.1, subst (λ x. at_place (same_cell x) c ≡ true) (sym found.2) placed.2)

@@ -11,7 +11,7 @@ use Rattle.ft_undo.specs.Logs.{is_open}
 use Rattle.ft_forest.specs.declared.state.State.{State as Life}
 use Rattle.ft_forest.specs.declared.state.State.TheVariants.{Live as LiveState}
 use Rattle.ft_forest.specs.Transactions.{Transactions, parent_in, state_in, last_in, HasBegun}
-use Rattle.ft_lock_rules.specs.Locks.{LockTable, has_lock, is_locked, is_released, is_opened}
+use Rattle.ft_lock_rules.specs.Locks.{LockTable, has_lock, is_kept, is_released, is_opened}
 use Rattle.ft_lock_rules.specs.Rules.{is_strict}
 use Rattle.ft_history.specs.History.{Base as HistoryBase, Fate, fate, IsLive, last_transaction, last_stamp, parent, is_child}
 use Rattle.ft_history.specs.History.Fate.{Live, Committed, Aborted}
@@ -138,7 +138,7 @@ module _ (W : CallLaws) (K : LockLaws) {base : Base} {h : History} {asks : Asks}
         let last_is = core.kept.started.last_txn_is in
         record { locks = same.opened t was.locks; log = same.open_still t was.log; sub = same.subs t (λ is. absurd (omega arith)) ∙ was.sub };
     waiting = core.waiting;
-    accounted = subst (λ (q : LockTable). IsAccounted (is_locked q) (is_released q) cells) (sym same.locks) core.accounted;
+    accounted = subst (λ (q : LockTable). IsAccounted (is_kept q) (is_released q) cells) (sym same.locks) core.accounted;
     within = still-within base forest forest j j' refl (ap (λ (q : Journaled). q.calls) same.journal) core.within;
     bare = core.bare;
   }

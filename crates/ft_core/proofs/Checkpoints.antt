@@ -17,7 +17,7 @@ use Rattle.ft_undo.specs.declared.logs.LogRecord.{LogRecord}
 use Rattle.ft_undo.specs.Logs.{AreLists}
 use Rattle.ft_forest.specs.declared.state.State.TheVariants.{Live as LiveState}
 use Rattle.ft_forest.specs.Transactions.{Transactions, none_since, state_in, last_in, parent_of, state_of as life_of}
-use Rattle.ft_lock_rules.specs.Locks.{LockTable, no_locks, is_locked}
+use Rattle.ft_lock_rules.specs.Locks.{LockTable, no_locks, is_kept}
 use Rattle.ft_history.specs.History.{Base as HistoryBase, Fate, is_live, IsFresh, begun}
 use Rattle.ft_history.specs.History.Fate.{Live}
 use Rattle.ft_history.specs.Logs.{passing}
@@ -135,7 +135,7 @@ module _ (W : CallLaws) (K : LockLaws) (p : Parts) (j : Journaled) (core : IsCor
         logs = record { logged = λ t. subst (AreLogged []) (sym (empty t)) tt; placed = λ t e i. absurd i };
         ready = λ t live. absurd (not_live (sym (unborn (last_in forest) t) ∙ live));
         waiting = λ t some. absurd (false≢true (sym (ap is_some (finite.get-empty {X = Call} nat_cmp t)) ∙ some));
-        accounted = λ c spare. absurd (false≢true (sym (useless c) ∙ (and_parts (is_useless cells c) (not (at_place (is_locked no_locks) c)) spare).0));
+        accounted = λ c spare. absurd (false≢true (sym (useless c) ∙ (and_parts (is_useless cells c) (not (at_place (is_kept no_locks) c)) spare).0));
         within = (λ i. are_within (record { file_size = (limits-kept W core.kept i).file_size; links = (limits-kept W core.kept i).links; depth = forest.limits.depth; transactions = forest.limits.transactions; calls = j.calls }) greatest_limits) ∙ core.within;
         bare = λ e. useless;
       }

@@ -15,7 +15,7 @@ use Rattle.ft_lock_rules.specs.Locks.{LockTable, has_lock, is_opened}
 use Rattle.ft_lock_rules.specs.Rules.{is_strict}
 use Rattle.ft_lock_rules.specs.Surveys.{HasNoHolderAbove}
 use Rattle.ft_lock_rules.specs.Law.{AreLocksOf}
-use Rattle.ft_lock_rules.specs.Knowing.{is_known}
+use Rattle.ft_lock_rules.specs.Locks.{may_be_useless}
 use Rattle.ft_history.specs.Forest.{is_some_and}
 use Rattle.ft_history.specs.History.{Base as HistoryBase, Fate, fate, IsLive, parent, last_stamp}
 use Rattle.ft_history.specs.History.Fate.{Live, Committed}
@@ -68,7 +68,7 @@ logged-handed log lists same n (Some p) =
     (logged-put log lists same p (log n ++ log p) (lists n ++ lists p) (logged-append (log n) (log p) (lists n) (lists p) (same n) (same p))) n [] [] tt
 
 pub handed-opened : (old new : LockTable) (n : ℕ) (up : Option ℕ) → AreHandedUp old new n up → (t : ℕ) → t ≢ n → is_opened old t ≡ true → is_opened new t ≡ true
-handed-opened old new n None h = opened-other old new n h.opened
+handed-opened old new n None h = opened-other old new n h.freed.opened
 handed-opened old new n (Some p) h = opened-other old new n h.opened
 
 module _ (W : CallLaws) (K : LockLaws) {base : Base} {h : History} {asks : Asks} {last_txn last_number : ℕ} {cells : Cells} {forest : Transactions} {table : LockTable} {lists : Lists LogRecord} {j : Journaled} (core : IsCoreAt base h asks last_txn last_number cells forest table lists j) (t : ℕ) (live : IsLive posix_calls base.last_txn h t) (no_live : (x : ℕ) → IsLiveChild forest t x → ⊥) where
@@ -110,11 +110,11 @@ module _ (W : CallLaws) (K : LockLaws) {base : Base} {h : History} {asks : Asks}
   locks (Some p) is table' h' = K.commit.under from (values W core.kept) h table core.locks t p table' legal is h'
 
   no_holder : (up : Option ℕ) → parent posix_calls h t ≡ up → (table' : LockTable) → AreHandedUp table table' t up → HasNoHolderAbove table forest → HasNoHolderAbove table' forest
-  no_holder None is table' h' = K.holders.fewer table table' (λ l e. (and_parts (not (l.owner == t)) (has_lock table l) (sym (h'.lines l) ∙ e)).1) forest forest (λ x. refl)
+  no_holder None is table' h' = K.holders.fewer table table' (λ l e. (and_parts (not (l.owner == t)) (has_lock table l) (sym (h'.freed.lines l) ∙ e)).1) forest forest (λ x. refl)
   no_holder (Some p) is table' h' = K.holders.inherited from (values W core.kept) h table core.locks core.kept.core.legal forest core.transactions.parents t p is table' h'
 
-  -- who inherits, and who is let go, knows what was known
-  knows : (up : Option ℕ) → parent posix_calls h t ≡ up → (table' : LockTable) → AreHandedUp table table' t up → (c : Cell) → is_known table c ≡ true → is_known table' c ≡ true
+  -- what may have been without use before may be so afterwards
+  knows : (up : Option ℕ) → parent posix_calls h t ≡ up → (table' : LockTable) → AreHandedUp table table' t up → (c : Cell) → may_be_useless table c ≡ true → may_be_useless table' c ≡ true
   knows None is table' h' = K.known.released table table' t h'
   knows (Some p) is table' h' = K.known.inherited table table' t p (up-live p is).1 h'
 

@@ -20,7 +20,7 @@ use Rattle.ft_forest.specs.declared.limits.ForestLimits.{ForestLimits}
 use Rattle.ft_forest.specs.Transactions.{Transaction, Transactions, none_since, transaction_in, parent_of, state_of as life_of}
 use Rattle.ft_lock_rules.specs.declared.rule.Rule.{Rule}
 use Rattle.ft_lock_rules.specs.Rules.{is_strict}
-use Rattle.ft_lock_rules.specs.Locks.{LockTable, no_locks, is_locked, is_released}
+use Rattle.ft_lock_rules.specs.Locks.{LockTable, no_locks, is_kept, is_released}
 use Rattle.ft_history.specs.History.{Fate, fate, IsLive}
 use Rattle.ft_history.specs.History.Fate.{Live, Committed, Aborted}
 use Rattle.ft_history.proofs.Words.{by_number}
@@ -80,7 +80,7 @@ core-first W K rule calls few limits cells fresh sound free lists none within = 
   logs = record { logged = λ t. subst (AreLogged []) (sym (none t)) tt; placed = λ t e i. absurd i };
   ready = λ t live. absurd (not_live (sym (unborn 0 t) ∙ live));
   waiting = λ t some. absurd (false≢true (sym (ap is_some (finite.get-empty {X = Call} nat_cmp t)) ∙ some));
-  accounted = subst (IsAccounted (is_locked no_locks) (is_released no_locks)) (sym fresh) (fresh-accounted limits (is_locked no_locks) (is_released no_locks));
+  accounted = subst (IsAccounted (is_kept no_locks) (is_released no_locks)) (sym fresh) (fresh-accounted limits (is_kept no_locks) (is_released no_locks));
   within = (λ i. are_within (record { file_size = (fresh i).limits.file_size; links = (fresh i).limits.links; depth = few.depth; transactions = few.transactions; calls = calls }) greatest_limits) ∙ within;
   bare = λ e c. ap (λ k. is_useless k c) fresh ∙ fresh-none limits c;
 }

@@ -48,7 +48,7 @@ module _ (table : LockTable) (t : ℕ) (front : List Cell) (held : AreGranted ta
   has-own c i =
       let given : has_access (reads_of front) c ReadMode ≡ true =
       in-any (λ a. same_cell a.cell c && same_mode a.mode ReadMode) (read c) (reads_of front) (read-in c front i) (ap (λ b. b && true) (same_cell-refl c)) in
-      held.lines (own c) ∙ ap (λ b. has_lock table (own c) || (b && has_access (reads_of front) c ReadMode)) owner-is ∙ ap (λ b. has_lock table (own c) || b) given ∙ or_right (has_lock table (own c)) true refl
+      held.given.lines (own c) ∙ ap (λ b. has_lock table (own c) || (b && has_access (reads_of front) c ReadMode)) owner-is ∙ ap (λ b. has_lock table (own c) || b) given ∙ or_right (has_lock table (own c)) true refl
 
   -- nobody is in the way of it
   module _ (rule : Rule) (forest : Transactions) (alone : HasItsCellsAlone table forest t) (no_holder : is_strict rule ≡ true → HasNoHolderAbove table forest) where
@@ -101,7 +101,7 @@ module _ (table : LockTable) (t : ℕ) (front : List Cell) (held : AreGranted ta
       ∙ in-any (λ a. same_cell a.cell l.cell && same_mode a.mode l.mode) found.0 zs i found.2 in
       elim (alike found.0 found.1) [
         | inl i ↦ inl (all ys i)
-        | inr h ↦ inr (held.lines l ∙ ap (λ b. has_lock table l || b) (all (reads_of front) (of-read front found.0 h)) ∙ or_right (has_lock table l) true refl)
+        | inr h ↦ inr (held.given.lines l ∙ ap (λ b. has_lock table l || b) (all (reads_of front) (of-read front found.0 h)) ∙ or_right (has_lock table l) true refl)
       ]
 
   stays-or-goes : (o p q : Bool) → (p ≡ true → q ≡ true ⊎ (o ≡ false)) → (q ≡ true → p ≡ true ⊎ (o ≡ false)) → (o && not p) ≡ (o && not q)
@@ -120,14 +120,17 @@ module _ (table : LockTable) (t : ℕ) (front : List Cell) (held : AreGranted ta
       let found = any-in (λ a. same_cell a.cell c) xs accessed in
       elim (alike found.0 found.1) [
         | inl i ↦ inl (in-any (λ a. same_cell a.cell c) found.0 ys i found.2)
-        | inr h ↦ inr (gone (is_released table c) (held.released_cells c ∙ ap (λ b. is_released table c && not b) (in-any (λ a. same_cell a.cell c) found.0 (reads_of front) (of-read front found.0 h) found.2)))
+        | inr h ↦ inr (gone (is_released table c) (held.given.released_cells c ∙ ap (λ b. is_released table c && not b) (in-any (λ a. same_cell a.cell c) found.0 (reads_of front) (of-read front found.0 h) found.2)))
       ]
 
   pub alike-granted : (new : LockTable) (xs ys : List Access) → AreAlikeBut front xs ys → AreGranted table new t xs → AreGranted table new t ys
   alike-granted new xs ys alike granted = record {
-    lines = λ l. granted.lines l ∙ either-way (has_lock table l) (is_given t xs l) (is_given t ys l) (given-in xs ys alike.one l) (given-in ys xs alike.other l);
-    released_cells = λ c. granted.released_cells c ∙ stays-or-goes (is_released table c) (is_accessed xs c) (is_accessed ys c) (accessed-in xs ys alike.one c) (accessed-in ys xs alike.other c);
-    opened = granted.opened;
+    given = record {
+      lines = λ l. granted.given.lines l ∙ either-way (has_lock table l) (is_given t xs l) (is_given t ys l) (given-in xs ys alike.one l) (given-in ys xs alike.other l);
+      released_cells = λ c. granted.given.released_cells c ∙ stays-or-goes (is_released table c) (is_accessed xs c) (is_accessed ys c) (accessed-in xs ys alike.one c) (accessed-in ys xs alike.other c);
+      opened = granted.given.opened;
+    };
+    useless = granted.useless;
   }
 
 -- What is held stays held when others are granted too.
@@ -146,7 +149,10 @@ still-gone true false false a was is = refl
 
 pub still-held : (old new : LockTable) (t u : ℕ) (reads accesses : List Access) → AreGranted old old t reads → AreGranted old new u accesses → AreGranted new new t reads
 still-held old new t u reads accesses held granted = record {
-  lines = λ l. still-there (has_lock old l) (has_lock new l) (is_given t reads l) (is_given u accesses l) (held.lines l) (granted.lines l);
-  released_cells = λ c. still-gone (is_released old c) (is_released new c) (is_accessed reads c) (is_accessed accesses c) (held.released_cells c) (granted.released_cells c);
-  opened = refl;
+  given = record {
+    lines = λ l. still-there (has_lock old l) (has_lock new l) (is_given t reads l) (is_given u accesses l) (held.given.lines l) (granted.given.lines l);
+    released_cells = λ c. still-gone (is_released old c) (is_released new c) (is_accessed reads c) (is_accessed accesses c) (held.given.released_cells c) (granted.given.released_cells c);
+    opened = refl;
+  };
+  useless = λ c h. h;
 }

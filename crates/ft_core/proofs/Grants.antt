@@ -23,7 +23,7 @@ use Rattle.ft_posix.specs.Posix.{HasSoundValues, Stamped, as_place, posix, posix
 use Rattle.ft_undo.specs.declared.logs.LogRecord.{LogRecord}
 use Rattle.ft_forest.specs.declared.TheConstants.{LAST_NUMBER}
 use Rattle.ft_forest.specs.Transactions.{Transactions}
-use Rattle.ft_lock_rules.specs.Locks.{LockTable, is_locked, is_released, AreBlockers}
+use Rattle.ft_lock_rules.specs.Locks.{LockTable, is_kept, is_released, AreBlockers}
 use Rattle.ft_lock_rules.specs.Rules.{is_strict}
 use Rattle.ft_history.specs.History.{Base as HistoryBase, last_stamp, IsLive, grants, number}
 use Rattle.ft_history.specs.History.Event.{Call as WasGranted}
@@ -173,9 +173,9 @@ module _ (W : CallLaws) (K : LockLaws) {base : Base} {h : History} {asks : Asks}
       logs = record { logged = logged; placed = placed };
       ready = λ u alive.
           let was = core.ready u alive in
-          record { locks = ap (λ s. set.contains s u) made.granted.opened ∙ was.locks; log = made.open_still u ∙ was.log; sub = ap (λ m. finite.get m u) subs ∙ was.sub };
+          record { locks = ap (λ s. set.contains s u) made.granted.given.opened ∙ was.locks; log = made.open_still u ∙ was.log; sub = ap (λ m. finite.get m u) subs ∙ was.sub };
       waiting = waiting;
-      accounted = subst (IsAccounted (is_locked table') (is_released table')) acted (granted-accounted W K cells table table' a t accesses core.kept.sound is_free touched made.granted core.accounted);
+      accounted = subst (IsAccounted (is_kept table') (is_released table')) acted (granted-accounted W K cells table table' a t accesses core.kept.sound is_free touched made.granted core.accounted);
       within = still-within base forest forest j j' refl calls core.within;
       bare = λ e. happened e;
     }

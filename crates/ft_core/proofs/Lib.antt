@@ -16,6 +16,7 @@ mod Placing
 mod Grants
 mod Asks
 mod Reverting
+mod Reaching
 mod Lists
 pub mod Ends
 mod Noted

@@ -13,7 +13,7 @@ use Rattle.ft_history.specs.Logs.{put}
 use Rattle.ft_history.proofs.Losing.{LosesOwn, abort_loses, abort_sound}
 use Rattle.ft_history.proofs.Methods.{IsTakingBack, abort_step}
 use Rattle.ft_history.proofs.Words.{put_same, put_other, by_list}
-use Rattle.ft_lock_rules.specs.Locks.{LockTable, is_locked, is_released}
+use Rattle.ft_lock_rules.specs.Locks.{LockTable, is_kept, is_released}
 use Rattle.ft_undo.specs.declared.logs.LogRecord.{LogRecord}
 use Rattle.ft_undo.specs.Undone.{given_back}
 use Rattle.ft_core.specs.Histories.{History}
@@ -40,13 +40,13 @@ module _ (W : CallLaws) {base : Base} {h : History} {last_txn last_number : ℕ}
     pub others : (y : ℕ) → y ≢ x → left y ≡ lists y
     pub stay : StayPlaces now (taken_back ys now)
     pub named : HasNamedPlaces (taken_back ys now)
-    pub accounted : IsAccounted (is_locked table) (is_released table) (taken_back ys now)
+    pub accounted : IsAccounted (is_kept table) (is_released table) (taken_back ys now)
 
   -- Where x is at or below t, and the lists strictly below x are empty, it can be taken back. What
   -- its calls wrote is locked.
   pub list-taken : (table : LockTable) (t x : ℕ) → over posix_calls h t x ≡ true → (ys : List LogRecord) (m : ℕ) (now : Cells) (lists : ℕ → List Item) → AreLogged (lists x) ys → ((y : ℕ) → over posix_calls h x y ≡ true → y ≢ x → lists y ≡ [])
-      → ((e : Item) → In e (lists x) → ArePlaced now e) → ((e : Item) → In e (lists x) → (c : Cell) → writes_cell e.done.accesses c ≡ true → is_locked table c ≡ true)
-      → HasNamedPlaces now → IsAccounted (is_locked table) (is_released table) now → IsTaking t m now lists → IsListTaken table t x m now lists ys
+      → ((e : Item) → In e (lists x) → ArePlaced now e) → ((e : Item) → In e (lists x) → (c : Cell) → writes_cell e.done.accesses c ≡ true → is_kept table c ≡ true)
+      → HasNamedPlaces now → IsAccounted (is_kept table) (is_released table) now → IsTaking t m now lists → IsListTaken table t x m now lists ys
   list-taken table t x under [] m now lists logged below placed locked named accounted taking = by_list (lists x)
       (λ none. record { can = tt; left = lists; taking = subst (λ n. IsTaking t n now lists) (omega arith) taking; empty = none; others = λ y ne. refl; stay = λ c h. h; named = named; accounted = accounted })
       (λ e es is. absurd (subst (λ l. AreLogged l []) is logged))
@@ -71,7 +71,7 @@ module _ (W : CallLaws) {base : Base} {h : History} {last_txn last_number : ℕ}
       (λ d i. placed-stays now new one.stay d (placed d (older d i)))
       (λ d i. locked d (older d i))
       one.named
-      (subst (IsAccounted (is_locked table) (is_released table)) (sym one.made) now_accounted)
+      (subst (IsAccounted (is_kept table) (is_released table)) (sym one.made) now_accounted)
       (subst (λ s. IsTaking t (suc m) s (put lists x es)) (sym one.made) step.1) in
       record {
         can = (one.can, rest.can);

@@ -13,7 +13,7 @@ use Rattle.ft_forest.specs.Transactions.{Transactions}
 use Rattle.ft_lock_rules.specs.declared.line.LockKind.{LockKind}
 use Rattle.ft_lock_rules.specs.declared.line.LockKind.TheVariants.{Held, Retained}
 use Rattle.ft_lock_rules.specs.declared.line.LockLine.{LockLine}
-use Rattle.ft_lock_rules.specs.Locks.{LockTable, is_locked, has_lock}
+use Rattle.ft_lock_rules.specs.Locks.{LockTable, is_kept, has_lock}
 use Rattle.ft_history.specs.History.{Base as HistoryBase, standing}
 use Rattle.ft_history.specs.Locks.{holds_lock, retains_lock}
 use Rattle.ft_history.proofs.Words.{In-map}
@@ -51,5 +51,6 @@ module _ (W : CallLaws) (K : LockLaws) {base : Base} {h : History} {asks : Asks}
           | inr retained ↦ (Retained, core.locks (write_line t c Retained) ∙ retained)
         ]
 
-    pub written-locked : (c : Cell) → writes_cell e.done.accesses c ≡ true → is_locked table c ≡ true
-    written-locked c writes = let lock = has-lock c writes in K.locked table (write_line t c lock.0) lock.1
+    -- which keeps the cell from a sweep
+    pub written-kept : (c : Cell) → writes_cell e.done.accesses c ≡ true → is_kept table c ≡ true
+    written-kept c writes = let lock = has-lock c writes in K.known.written table (write_line t c lock.0) lock.1 refl

@@ -32,15 +32,18 @@ alone-there W K {h = h} {forest = forest} {table = table} core t none =
 -- The first accesses were granted before, and the rest are granted now.
 pub granted-rest : (old new : LockTable) (t : ℕ) (xs : List Access) (k : ℕ) → AreGranted old old t (take k xs) → AreGranted old new t (drop k xs) → AreGranted old new t xs
 granted-rest old new t xs k before now = record {
-  lines = λ l.
-      now.lines l
-      ∙ both-lines (has_lock old l) (is_held l.kind) (l.owner == t) (has_access (take k xs) l.cell l.mode) (has_access (drop k xs) l.cell l.mode) (before.lines l)
-      ∙ ap (λ b. has_lock old l || (is_held l.kind && (l.owner == t) && b)) (accesses-split l.cell l.mode);
-  released_cells = λ c.
-      now.released_cells c
-      ∙ both-cells (is_released old c) (is_accessed (take k xs) c) (is_accessed (drop k xs) c) (before.released_cells c)
-      ∙ ap (λ b. is_released old c && not b) (accessed-split c);
-  opened = now.opened;
+  given = record {
+    lines = λ l.
+        now.given.lines l
+        ∙ both-lines (has_lock old l) (is_held l.kind) (l.owner == t) (has_access (take k xs) l.cell l.mode) (has_access (drop k xs) l.cell l.mode) (before.given.lines l)
+        ∙ ap (λ b. has_lock old l || (is_held l.kind && (l.owner == t) && b)) (accesses-split l.cell l.mode);
+    released_cells = λ c.
+        now.given.released_cells c
+        ∙ both-cells (is_released old c) (is_accessed (take k xs) c) (is_accessed (drop k xs) c) (before.given.released_cells c)
+        ∙ ap (λ b. is_released old c && not b) (accessed-split c);
+    opened = now.given.opened;
+  };
+  useless = now.useless;
 }
   where
     accesses-split : (c : Cell) (m : Mode) → (has_access (take k xs) c m || has_access (drop k xs) c m) ≡ has_access xs c m

@@ -22,7 +22,7 @@ use Rattle.ft_posix.specs.Posix.{HasSoundValues, file_of, names_file, posix_call
 use Rattle.ft_posix.specs.RunLaws.{writes_cell}
 use Rattle.ft_undo.specs.declared.logs.LogRecord.{LogRecord}
 use Rattle.ft_forest.specs.Transactions.{Transactions}
-use Rattle.ft_lock_rules.specs.Locks.{LockTable, is_locked}
+use Rattle.ft_lock_rules.specs.Locks.{LockTable, is_locked, is_kept}
 use Rattle.ft_history.specs.History.{Base as HistoryBase, Fate, fate, IsLive, over, standing}
 use Rattle.ft_history.specs.Locks.{owns_lock}
 use Rattle.ft_history.specs.Core.{AreInverses, IsSweep, IsCore}
@@ -39,7 +39,7 @@ use Rattle.ft_core.specs.Laws.{CallLaws, LockLaws}
 use Rattle.ft_core.proofs.Accounts.{not-named, swept-accounted, none-useless}
 use Rattle.ft_core.proofs.Cores.{unborn}
 use Rattle.ft_core.proofs.Joining.{start, values, past, free}
-use Rattle.ft_core.proofs.Owned.{owned-by, written-locked}
+use Rattle.ft_core.proofs.Owned.{owned-by, written-kept}
 use Rattle.ft_core.proofs.Written.{written-changes, set-once}
 use Rattle.ft_core.specs.declared.parts.Parts.{Parts}
 
@@ -94,7 +94,7 @@ never-live first h e x live = none_fate (sym (unborn first x) ∙ ap (λ (k : Hi
     none_fate : {f : Fate} → None ≡ Some f → ⊥
     none_fate e = cc
 
-module _ (W : CallLaws) (K : LockLaws) {base : Base} {h : History} {asks : Asks} {last_txn last_number : ℕ} {cells : Cells} {forest : Transactions} {table : LockTable} {lists : Lists LogRecord} {j : Journaled} (core : IsCoreAt base h asks last_txn last_number cells forest table lists j) (new : Cells) (swept : IsSwept (is_locked table) cells new) (none_left : HasNoneToDrop (is_locked table) new) (sound' : AreSoundCells new) where
+module _ (W : CallLaws) (K : LockLaws) {base : Base} {h : History} {asks : Asks} {last_txn last_number : ℕ} {cells : Cells} {forest : Transactions} {table : LockTable} {lists : Lists LogRecord} {j : Journaled} (core : IsCoreAt base h asks last_txn last_number cells forest table lists j) (new : Cells) (swept : IsSwept (is_kept table) cells new) (none_left : HasNoneToDrop (is_kept table) new) (sound' : AreSoundCells new) where
   abbrev from : HistoryBase posix_calls
   from = start W core.kept
 
@@ -115,7 +115,11 @@ module _ (W : CallLaws) (K : LockLaws) {base : Base} {h : History} {asks : Asks}
   more i = hidden i || (gone i && nat_le i last_number)
 
   unlocked : (i : ℕ) → gone i ≡ true → (y : ℕ) (x : Cell) → file_of x ≡ Some i → owns_lock posix_calls h y (λ f. posix_calls.touches f (Some x)) ≡ false
-  unlocked i k y x e = K.cover from with_values h table core.locks x i e (file-cell (λ c. is_locked table c ≡ false) i (swept.files i k).links (swept.files i k).bytes (swept.files i k).attributes x e) y
+  unlocked i k y x e = K.cover from with_values h table core.locks x i e (file-cell (λ c. is_locked table c ≡ false) i (free (Links i) refl (swept.files i k).links) (free (Bytes i) refl (swept.files i k).bytes) (free (FileAttributes i) refl (swept.files i k).attributes) x e) y
+    where
+      -- what no lock keeps of a file is not locked
+      free : (c : Cell) → file_of c ≡ Some i → is_kept table c ≡ false → is_locked table c ≡ false
+      free c is gone_now = K.known.file table c i is gone_now
 
   unnamed : (i : ℕ) → gone i ≡ true → (x : Cell) → names_file x (held cells x) i ≡ false
   unnamed i k x = W.nameless cells core.kept.sound i (swept.files i k).dead x
@@ -159,7 +163,7 @@ module _ (W : CallLaws) (K : LockLaws) {base : Base} {h : History} {asks : Asks}
   others (Some (Links i)) k = swept.links i
   others (Some (Bytes i)) k = file-same (λ (f : FileCells). f.contents) i (swept.contents i) (λ free. free.unused (Bytes i) refl) k
   others (Some (Fd f)) k = swept.opens f
-  others (Some (DirAttributes d)) k = swept-dir_attributes (is_locked table) cells new swept core.kept.sound d
+  others (Some (DirAttributes d)) k = swept-dir_attributes (is_kept table) cells new swept core.kept.sound d
   others (Some (FileAttributes i)) k = file-same (λ (f : FileCells). f.attributes) i (swept.file_attributes i) (λ free. free.unused (FileAttributes i) refl) k
 
   blanked : (x : Option Cell) → is_hidden posix_calls more x ≡ true → posix_calls.cell new x ≡ posix_calls.blank x
@@ -227,8 +231,8 @@ module _ (W : CallLaws) (K : LockLaws) {base : Base} {h : History} {asks : Asks}
     owned : In e.done (standing posix_calls h) × (owner posix_calls h e.done ≡ Some t)
     owned = owned-by W K core t e i
 
-    locked : (c : Cell) → writes_cell e.done.accesses c ≡ true → is_locked table c ≡ true
-    locked = written-locked W K core t e i
+    locked : (c : Cell) → writes_cell e.done.accesses c ≡ true → is_kept table c ≡ true
+    locked = written-kept W K core t e i
 
     -- and names no file that is gone
     brings : (w : Change) → In w e.inverse.before → (k : ℕ) → gone k ≡ true → names_file w.cell w.value k ≡ false
@@ -263,15 +267,15 @@ module _ (W : CallLaws) (K : LockLaws) {base : Base} {h : History} {asks : Asks}
           (λ w j. file-kept w.cell w.value (brings w j) (Each-at (λ (v : Change). file_is_stored cells v.cell v.value) e.inverse.before w was.files j));
     }
 
-  -- Where nothing has happened no cell is locked.
-  all-free : h ≡ [] → (c : Cell) → is_locked table c ≡ false
-  all-free e c = by_test (is_locked table c)
-      (λ k. let lock = K.known.locked table c k in absurd (never-live base.last_txn h e lock.0.owner (K.live from with_values h table core.locks core.kept.core.legal lock.0 lock.1)))
+  -- Where nothing has happened no lock keeps a cell.
+  all-free : h ≡ [] → (c : Cell) → is_kept table c ≡ false
+  all-free e c = by_test (is_kept table c)
+      (λ k. let lock = K.known.locked table c (K.known.kept table c k) in absurd (never-live base.last_txn h e lock.0.owner (K.live from with_values h table core.locks core.kept.core.legal lock.0 lock.1)))
       (λ k. k)
 
   -- A core keeps all of it.
-  pub core-swept : (table' : LockTable) → table'.lines ≡ table.lines → table'.opened ≡ table.opened → IsCoreAt base h asks last_txn last_number new forest table' lists j
-  core-swept table' lines opened = record {
+  pub core-swept : (table' : LockTable) → table'.lines ≡ table.lines → table'.opened ≡ table.opened → table'.keeps_all ≡ table.keeps_all → IsCoreAt base h asks last_txn last_number new forest table' lists j
+  core-swept table' lines opened keeps_all = record {
     log = core.log;
     kept = record { started = core.kept.started; hidden = more; core = core'; sound = sound' };
     transactions = core.transactions;
@@ -280,16 +284,16 @@ module _ (W : CallLaws) (K : LockLaws) {base : Base} {h : History} {asks : Asks}
     logs = record { logged = core.logs.logged; placed = placed };
     ready = λ u live. let now = core.ready u live in record { locks = ap (λ s. set.contains s u) opened ∙ now.locks; log = now.log; sub = now.sub };
     waiting = core.waiting;
-    accounted = swept-accounted table table' new lines none_left;
+    accounted = swept-accounted table table' new lines keeps_all none_left;
     within = core.within;
-    bare = λ e. none-useless table new (all-free e) none_left;
+    bare = λ e. none-useless (is_kept table) new (all-free e) none_left;
   }
 
--- Where no transaction is live, no cell is locked.
-pub nobody-locks : (W : CallLaws) (K : LockLaws) (s : State) (p : Parts) (j : Journaled) → IsCoreOf s p j → NoneIsLive s → (c : Cell) → is_locked p.locks c ≡ false
-nobody-locks W K s p j core none c = by_test (is_locked p.locks c)
+-- Where no transaction is live, no lock keeps a cell.
+pub nobody-locks : (W : CallLaws) (K : LockLaws) (s : State) (p : Parts) (j : Journaled) → IsCoreOf s p j → NoneIsLive s → (c : Cell) → is_kept p.locks c ≡ false
+nobody-locks W K s p j core none c = by_test (is_kept p.locks c)
     (λ k.
-    let lock = K.known.locked p.locks c k in
+    let lock = K.known.locked p.locks c (K.known.kept p.locks c k) in
     let from = start W core.kept in
     let with_values = values W core.kept in
     absurd (none (lock.0.owner, K.live from with_values (history s) p.locks core.locks core.kept.core.legal lock.0 lock.1)))

@@ -14,7 +14,7 @@ use Rattle.ft_undo.specs.declared.logs.LogRecord.{LogRecord}
 use Rattle.ft_undo.specs.Logs.{is_open, newest_of, AreLists, AreOpen}
 use Rattle.ft_undo.specs.Undone.{given_back, CanGiveAllBack}
 use Rattle.ft_forest.specs.Transactions.{Transactions, IsLiveChild}
-use Rattle.ft_lock_rules.specs.Locks.{LockTable, is_locked, is_released}
+use Rattle.ft_lock_rules.specs.Locks.{LockTable, is_kept, is_released}
 use Rattle.ft_lock_rules.specs.Rules.{is_strict}
 use Rattle.ft_history.specs.Core.{IsCore}
 use Rattle.ft_history.specs.History.{Base as HistoryBase, IsLive}
@@ -42,7 +42,7 @@ use Rattle.ft_core.proofs.Commits.{logged-put}
 use Rattle.ft_core.proofs.Children.{no-child}
 use Rattle.ft_core.proofs.Ends.{named, kept-ending}
 use Rattle.ft_core.proofs.Joining.{start, values}
-use Rattle.ft_core.proofs.Owned.{written-locked}
+use Rattle.ft_core.proofs.Owned.{written-kept}
 use Rattle.ft_core.proofs.Reverting.{placed-stays, is_taken_back}
 
 module _ (W : CallLaws) (K : LockLaws) {base : Base} {h : History} {asks : Asks} {last_txn last_number : ℕ} {cells : Cells} {forest : Transactions} {table : LockTable} {lists : Lists LogRecord} {j : Journaled} (core : IsCoreAt base h asks last_txn last_number cells forest table lists j) (t : ℕ) (live : IsLive posix_calls base.last_txn h t) where
@@ -180,8 +180,8 @@ module _ (W : CallLaws) (K : LockLaws) {base : Base} {h : History} {asks : Asks}
               };
               ready = λ u now. let was = core.ready u now in record { locks = was.locks; log = opened u ∙ was.log; sub = ap (λ (q : Journaled). finite.get q.subs u) told ∙ was.sub };
               waiting = core.waiting;
-              accounted = subst (IsAccounted (is_locked table) (is_released table)) (sym reverted)
-                  (reverted-accounted W cells e (core.logs.placed t e there).own table (written-locked W K core t e there) loses (subst AreSoundCells reverted kept.sound) core.accounted);
+              accounted = subst (IsAccounted (is_kept table) (is_released table)) (sym reverted)
+                  (reverted-accounted W cells e (core.logs.placed t e there).own table (written-kept W K core t e there) loses (subst AreSoundCells reverted kept.sound) core.accounted);
               within = still-within base forest forest j j' refl (ap (λ (q : Journaled). q.calls) told) core.within;
               bare = λ f. happened f;
             };

@@ -19,7 +19,7 @@ use Rattle.ft_undo.specs.Logs.{is_open}
 use Rattle.ft_undo.specs.Undone.{given_back, CanGiveAllBack}
 use Rattle.ft_forest.specs.declared.TheConstants.{LAST_NUMBER}
 use Rattle.ft_forest.specs.Transactions.{Transactions, parent_in, state_in, last_in}
-use Rattle.ft_lock_rules.specs.Locks.{LockTable, is_locked, is_released, is_opened}
+use Rattle.ft_lock_rules.specs.Locks.{LockTable, is_kept, is_released, is_opened}
 use Rattle.ft_lock_rules.specs.Law.{AreLocksOf}
 use Rattle.ft_lock_rules.specs.Rules.{is_strict}
 use Rattle.ft_lock_rules.specs.Surveys.{HasNoHolderAbove}
@@ -140,7 +140,8 @@ allowed base forest j = record {
 }
 
 -- The invariant of a core: its tree, its transactions, its locks and its lists are those of its
--- history, whatever can be undone has its places, and a place of no use is locked or was released.
+-- history, whatever can be undone has its places, and a lock keeps each place of no use or it was
+-- released.
 pub record IsCoreAt (base : Base) (h : History) (asks : Asks) (last_txn last_number : ℕ) (cells : Cells) (forest : Transactions) (table : LockTable) (lists : Lists LogRecord) (j : Journaled) : Type 0 where
   pub log : ℕ → List Item
   pub kept : IsKept base h last_txn last_number cells log
@@ -153,7 +154,7 @@ pub record IsCoreAt (base : Base) (h : History) (asks : Asks) (last_txn last_num
   pub ready : (t : ℕ) → IsLive posix_calls base.last_txn h t → IsReady base h table lists j t
   -- only live transactions wait
   pub waiting : (t : ℕ) → is_some (finite.get asks t) ≡ true → IsLive posix_calls base.last_txn h t
-  pub accounted : IsAccounted (is_locked table) (is_released table) cells
+  pub accounted : IsAccounted (is_kept table) (is_released table) cells
   -- no limit is above the greatest
   pub within : are_within (allowed base forest j) greatest_limits ≡ true
   -- if nothing has happened no place is of no use

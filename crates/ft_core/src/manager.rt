@@ -17,6 +17,7 @@ ghost use Rattle.ft_core.specs.States.{first_state, limits_of, fate_in, fate_of,
 ghost use Rattle.ft_core.specs.Journals.{IsBaseTree};
 ghost use Rattle.ft_core.specs.Living.{SomeIsLive, NoneIsLive};
 ghost use Rattle.ft_core.specs.Promises.{IsHeadline};
+ghost use Rattle.ft_core.specs.Reached.{IsReached};
 ghost use Rattle.ft_core.specs.Sweeps.{HasNoUselessPlace};
 ghost use Rattle.ft_core.specs.Steps.{IsStep, exact_rule, fault_of_fate, answer_with, refusal_of, refused_with, begin_request};
 ghost use Rattle.ft_core.specs.Opens.{AreAsBefore, IsOpenFor, add_refusal};
@@ -151,8 +152,10 @@ impl Core {
         self.parts.locks.seed(seed);
     }
 
-    /// Returns the allocator of its memory.
-    pub fn alloc(&self) -> Global {
+    /// Returns the allocator of its memory. The contract is what is true of every core.
+    pub fn alloc(&self) -> Global
+        ensures { IsReached self.now }
+    {
         self.alloc
     }
 

@@ -10,7 +10,7 @@ use Rattle.ft_posix.specs.declared.call.Call.{Call}
 use Rattle.ft_plan.specs.declared.job.Step.{Step}
 use Rattle.ft_job_reports.specs.declared.report.CallReport.{CallReport}
 use Rattle.ft_job_reports.specs.declared.report.End.{End}
-use Rattle.ft_job_reports.specs.declared.report.End.TheVariants.{Committed, Aborted, Waited, Refused, Failed, NotStarted}
+use Rattle.ft_job_reports.specs.declared.report.End.TheVariants.{Committed, Aborted, Waited, Refused, Failed, Deadlock, NotStarted}
 use Rattle.ft_job_reports.specs.declared.steps.Extent.{Extent}
 use Rattle.ft_job_reports.specs.declared.steps.Extent.TheVariants.{Whole, Other}
 use Rattle.ft_job_reports.specs.Asked.{opened, all_asked, asked_with, calls_told, AreAllOf, AreFirstOf, IsAtEnd, IsDone, names_step}
@@ -25,6 +25,7 @@ by_end steps Aborted calls extent none fits = (λ at. (fits.0.0 at.0, at.1), λ 
 by_end steps Waited calls extent none fits = fits.1
 by_end steps (Refused fault) calls extent none fits = fits.1
 by_end steps (Failed number) calls extent none fits = absurd (false≢true (sym none))
+by_end steps Deadlock calls extent none fits = fits.1
 by_end steps NotStarted calls extent none fits = fits.1
 
 -- where the end names no step

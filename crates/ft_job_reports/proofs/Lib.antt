@@ -4,3 +4,4 @@ pub mod Ending
 pub mod Following
 pub mod Fronts
 pub mod Begun
+pub mod Placed

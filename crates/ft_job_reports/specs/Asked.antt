@@ -16,7 +16,7 @@ use Rattle.ft_plan.specs.declared.job.Step.{Step}
 use Rattle.ft_plan.specs.declared.job.Step.TheVariants as does
 use Rattle.ft_job_reports.specs.declared.report.CallReport.{CallReport}
 use Rattle.ft_job_reports.specs.declared.report.End.{End}
-use Rattle.ft_job_reports.specs.declared.report.End.TheVariants.{Committed, Aborted, Waited, Refused, Failed, NotStarted}
+use Rattle.ft_job_reports.specs.declared.report.End.TheVariants.{Committed, Aborted, Waited, Refused, Failed, Deadlock, NotStarted}
 use Rattle.ft_job_reports.specs.declared.steps.Extent.{Extent}
 use Rattle.ft_job_reports.specs.declared.steps.Extent.TheVariants.{Whole, Other}
 
@@ -118,6 +118,7 @@ IsAtEnd steps Committed extent = (extent ≡ Whole) × EndsWith steps does.Commi
 IsAtEnd steps Aborted extent = (extent ≡ Whole) × EndsWith steps does.Abort
 IsAtEnd steps Waited extent = extent ≢ Other
 IsAtEnd steps (Refused fault) extent = extent ≢ Other
+IsAtEnd steps Deadlock extent = extent ≢ Other
 IsAtEnd steps NotStarted extent = extent ≢ Other
 IsAtEnd steps (Failed number) extent = ⊥
 
@@ -192,6 +193,7 @@ goes_strictly steps Waited calls = false
 goes_strictly steps Committed calls = all_go_on steps calls
 goes_strictly steps Aborted calls = all_go_on steps calls
 goes_strictly steps (Refused fault) calls = all_go_on steps calls
+goes_strictly steps Deadlock calls = all_go_on steps calls
 goes_strictly steps NotStarted calls = all_go_on steps calls
 
 -- the end and the calls of a job of this kind: only a strict one fails
@@ -208,5 +210,6 @@ IsDone steps Committed calls = AreAllOf (asked_with steps calls) calls × EndsWi
 IsDone steps Aborted calls = AreAllOf (asked_with steps calls) calls × EndsWith steps does.Abort
 IsDone steps Waited calls = AreFirstOf (asked_with steps calls) calls
 IsDone steps (Refused fault) calls = AreFirstOf (asked_with steps calls) calls
+IsDone steps Deadlock calls = AreFirstOf (asked_with steps calls) calls
 IsDone steps NotStarted calls = AreFirstOf (asked_with steps calls) calls
 IsDone steps (Failed number) calls = StopsAt steps number calls

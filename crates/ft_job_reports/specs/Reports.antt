@@ -1,7 +1,7 @@
 -- The reports of jobs are what happened. (The rules for jobs are this project's own:
 -- docs/SCRIPT.md, Plans. Transactions, their parents and what becomes of them are Moss's, as
 -- ft_history defines them.)
-use Rattle.std.specs.Prelude.{◌≡◌, ◌==◌, ◌&&◌, ◌||◌, not, ℕ, Bool, true, false, cond, nat_le, nat_lt, List, [], ◌∷◌, length, Option, None, Some, IsSome, IfSome, MatchOption, option_and_then, map, take, if◌then◌else◌, All}
+use Rattle.std.specs.Prelude.{◌≡◌, ◌==◌, ◌≤◌, ◌&&◌, ◌||◌, not, ℕ, Bool, true, false, cond, nat_le, nat_lt, List, [], ◌∷◌, length, Option, None, Some, IsSome, IfSome, MatchOption, option_and_then, map, take, if◌then◌else◌, All}
 use Rattle.std.specs.List.{list_all, list_any, position, slice_get, zip}
 use Rattle.std.specs.Option.{option_map_or}
 use Rattle.std.specs.Str.{bytes_eq}
@@ -21,7 +21,7 @@ use Rattle.ft_plan.specs.Plans.{is_subjob_of, is_subs, step_at}
 use Rattle.ft_job_reports.specs.declared.report.CallReport.{CallReport}
 use Rattle.ft_job_reports.specs.declared.report.Report.{Report}
 use Rattle.ft_job_reports.specs.declared.report.End.{End}
-use Rattle.ft_job_reports.specs.declared.report.End.TheVariants.{Committed, Aborted, Waited, Refused, Failed, NotStarted}
+use Rattle.ft_job_reports.specs.declared.report.End.TheVariants.{Committed, Aborted, Waited, Refused, Failed, Deadlock, NotStarted}
 use Rattle.ft_job_reports.specs.Asked.{IsDone, is_of_kind, is_strict}
 
 -- ---- the calls of a transaction
@@ -103,7 +103,22 @@ ends_committed Aborted = false
 ends_committed Waited = false
 ends_committed (Refused fault) = false
 ends_committed (Failed number) = false
+ends_committed Deadlock = false
 ends_committed NotStarted = false
+
+-- its transaction was aborted to break a deadlock
+abbrev pub ends_deadlocked : End → Bool
+ends_deadlocked Committed = false
+ends_deadlocked Aborted = false
+ends_deadlocked Waited = false
+ends_deadlocked (Refused fault) = false
+ends_deadlocked (Failed number) = false
+ends_deadlocked Deadlock = true
+ends_deadlocked NotStarted = false
+
+-- t is one of those that were aborted to break a deadlock
+abbrev pub is_victim : List ℕ → ℕ → Bool
+is_victim victims t = list_any (λ u. u == t) victims
 
 -- what has become of the transaction of a job that ended so: committed, or else aborted
 abbrev pub fate_at : End → Fate
@@ -116,16 +131,18 @@ may_lack_txn Aborted = false
 may_lack_txn Waited = false
 may_lack_txn (Refused fault) = true
 may_lack_txn (Failed number) = false
+may_lack_txn Deadlock = false
 may_lack_txn NotStarted = true
 
--- a job with these steps that ended so, as Waited, Refused or NotStarted, or failed before it
--- reached its subjobs, may have left these unstarted
+-- a job with these steps that ended so, as Waited, Refused, Deadlock or NotStarted, or failed before
+-- it reached its subjobs, may have left these unstarted
 abbrev pub may_leave_subjobs : List Step → End → Bool
 may_leave_subjobs steps Committed = false
 may_leave_subjobs steps Aborted = false
 may_leave_subjobs steps Waited = true
 may_leave_subjobs steps (Refused fault) = true
 may_leave_subjobs steps (Failed number) = not (list_any is_subs (take number steps))
+may_leave_subjobs steps Deadlock = true
 may_leave_subjobs steps NotStarted = true
 
 -- the job of this report and these steps may have left its subjobs unstarted
@@ -153,6 +170,7 @@ ends_as_meant Aborted = true
 ends_as_meant Waited = false
 ends_as_meant (Refused fault) = false
 ends_as_meant (Failed number) = false
+ends_as_meant Deadlock = false
 ends_as_meant NotStarted = false
 
 -- the job of this report was
@@ -163,9 +181,10 @@ ended_as_meant r = ends_as_meant r.end
 abbrev pub is_strict_job : Job → Bool
 is_strict_job job = is_strict job.kind
 
--- Each job was, or none is strict.
+-- Each job was, or none is strict. (The first reports are those of the jobs; earlier tries come
+-- after them.)
 abbrev pub are_met : List Job → List Report → Bool
-are_met jobs reports = not (list_any is_strict_job jobs) || list_all ended_as_meant reports
+are_met jobs reports = not (list_any is_strict_job jobs) || list_all ended_as_meant (take (length jobs) reports)
 
 -- ---- jobs that take the one around them along
 
@@ -199,6 +218,7 @@ may_end steps Aborted spared = spared
 may_end steps Waited spared = true
 may_end steps (Refused fault) spared = true
 may_end steps (Failed number) spared = if is_subs_at steps number then not spared else (spared || not (list_any is_subs (take number steps)))
+may_end steps Deadlock spared = true
 may_end steps NotStarted spared = true
 
 -- ---- jobs after others
@@ -240,6 +260,7 @@ is_unstarted Aborted = false
 is_unstarted Waited = false
 is_unstarted (Refused fault) = false
 is_unstarted (Failed number) = false
+is_unstarted Deadlock = false
 is_unstarted NotStarted = true
 
 -- A job that was started comes after those that it must: they have committed, before it began.
@@ -264,10 +285,15 @@ IsOfTxn h jobs reports job r t = (calls_of h t ≡ r.calls) × IsNested h jobs r
 abbrev pub MayLackTxn : Report → Type 0
 MayLackTxn r = (may_lack_txn r.end ≡ true) × (r.calls ≡ [])
 
+-- The report at a place is that of the job of this place, or, after those of all jobs, of an earlier
+-- try of a job, which was aborted to break a deadlock.
+abbrev pub is_placed : List Job → ℕ → Report → Bool
+is_placed jobs at r = if nat_lt at (length jobs) then r.job == at else ends_deadlocked r.end
+
 -- The report of a job is what happened to it.
 pub record IsReport (h : History) (jobs : List Job) (reports : List Report) (at : ℕ) (job : Job) (r : Report) : Type 0 where
-  -- It is that of the job of this place.
-  pub place : r.job ≡ at
+  -- It is that of the job of this place, or of an earlier try.
+  pub place : is_placed jobs at r ≡ true
   -- Its calls are those of its transaction, which is nested as the job is; or it may lack one.
   pub txn : MatchOption r.txn (MayLackTxn r) (IsOfTxn h jobs reports job r)
   -- They are in the order of their stamps.
@@ -276,29 +302,35 @@ pub record IsReport (h : History) (jobs : List Job) (reports : List Report) (at 
   pub done : IsDone job.steps r.end r.calls
   -- A strict job went on after each of them but that of a step that failed; only such a job fails.
   pub kind : is_of_kind job.kind job.steps r.end r.calls ≡ true
-  -- A job is not started only if it is a subjob whose parent was not started, was refused something
-  -- or waited too long, or failed before it reached its subjobs, or if one that it comes after has
-  -- not committed.
+  -- A job is not started only if it is a subjob whose parent was not started, was refused
+  -- something, waited too long, was aborted to break a deadlock, or failed before it reached its
+  -- subjobs, or if one that it comes after has not committed.
   pub unstarted : r.end ≡ NotStarted → may_be_unstarted jobs reports job ≡ true
   -- One that was started comes after those that it must.
   pub after : comes_last h jobs reports job r ≡ true
   -- It fails at its `subs` if a job takes it along, and goes on after it if none does.
   pub spared : may_end job.steps r.end (is_spared jobs reports job.name) ≡ true
 
--- This holds of the job and the report at this place.
+-- This holds of the report at this place, and its job.
 abbrev pub IsReportAt : History → List Job → List Report → ℕ → Type 0
-IsReportAt h jobs reports at = (job : Job) (r : Report) → slice_get jobs at ≡ Some job → slice_get reports at ≡ Some r → IsReport h jobs reports at job r
+IsReportAt h jobs reports at = (r : Report) → slice_get reports at ≡ Some r → MatchOption (slice_get jobs r.job) ⊥ (λ job. IsReport h jobs reports at job r)
 
--- Its transaction is committed if the job ended so, and else aborted.
-abbrev pub HasItsFate : State → Report → Type 0
-HasItsFate s r = IfSome r.txn (λ t. fate_of s t ≡ Some (fate_at r.end))
+-- Its transaction t is committed if the job ended so, and else aborted; and t was aborted to break a
+-- deadlock exactly if the job ended so.
+abbrev pub IsItsFate : State → List ℕ → Report → ℕ → Type 0
+IsItsFate s victims r t = (fate_of s t ≡ Some (fate_at r.end)) × (ends_deadlocked r.end ≡ is_victim victims t)
 
--- The reports of the jobs of a plan are what happened, in the state that they left.
-pub record AreReports (s : State) (jobs : List Job) (reports : List Report) : Type 0 where
-  -- There is one for each job, in the order of the plan.
-  pub count : length reports ≡ length jobs
+-- This holds of its transaction, if it has one.
+abbrev pub HasItsFate : State → List ℕ → Report → Type 0
+HasItsFate s victims r = IfSome r.txn (IsItsFate s victims r)
+
+-- The reports of the jobs of a plan are what happened, in the state that they left, in which these
+-- transactions were aborted to break deadlocks.
+pub record AreReports (s : State) (jobs : List Job) (victims : List ℕ) (reports : List Report) : Type 0 where
+  -- There is one for each job, in the order of the plan, and then one for each earlier try.
+  pub count : length jobs ≤ length reports
   pub each : (at : ℕ) → IsReportAt (history s) jobs reports at
-  pub fates : All (HasItsFate s) reports
+  pub fates : All (HasItsFate s victims) reports
   pub distinct : have_own_txns reports ≡ true
   -- From the least of their transactions and the first of their calls on, each call of the
   -- history is of one of them.

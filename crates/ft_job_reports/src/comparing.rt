@@ -2,13 +2,14 @@
 ghost use Rattle.std.specs.Prelude.{◌≡◌, ◌↔◌, ◌||◌, not, true, ℕ, All, MatchOption, IfOk, IsTrue, option_copied};
 ghost use Rattle.std.specs.List.{list_all};
 ghost use Rattle.ft_core.specs.Histories.{told};
-ghost use Rattle.ft_job_reports.specs.Reports.{has_txn, has_txn_up_to, has_first_up_to, is_reported, is_from_least_on, is_from_first_on, is_amid, have_own_txns, report_of, txn_of, IsNested, IsOfTxn, MayLackTxn, ends_committed, may_lack_txn, may_leave_subjobs, steps_of, may_be_left, may_be_unstarted, may_end, is_spared, comes_last, IsReportAt, HasItsFate, AreReports};
+ghost use Rattle.ft_job_reports.specs.Reports.{has_txn, has_txn_up_to, has_first_up_to, is_reported, is_from_least_on, is_from_first_on, is_amid, have_own_txns, report_of, txn_of, IsNested, IsOfTxn, MayLackTxn, ends_committed, ends_deadlocked, is_victim, is_placed, may_lack_txn, may_leave_subjobs, steps_of, may_be_left, may_be_unstarted, may_end, is_spared, comes_last, IsReport, IsReportAt, HasItsFate, AreReports};
+ghost use Rattle.ft_job_reports.specs.Asked.{IsDone};
 ghost use Rattle.ft_job_reports.specs.Reading.{has_stamp, is_stamp_reported, is_accounted};
 
 use crate::history::{are_calls_of, has_ended, has_rising_stamps, parent_of};
 use crate::meeting::{is_spared, may_end};
 use crate::order::{comes_last, ends_committed, may_start};
-use crate::places::{place_of, report_of, txn_of};
+use crate::places::{job_of, place_of, report_of, txn_of};
 use crate::report::{End, Report};
 use crate::steps::{comes_to_subs, is_done, is_of_kind};
 use ft_base::Memory;
@@ -23,12 +24,17 @@ pub fn are_reports(
     alloc: Global,
     plan: &Plan,
     core: &Recorded,
+    victims: &[TxnId],
     reports: &[Report],
 ) -> Result<bool, Memory>
-    ensures { IfOk result (λ are. IsTrue are ↔ AreReports core.now.state plan.now reports.now) }
+    ensures { IfOk result (λ are. IsTrue are
+        ↔ AreReports core.now.state plan.now victims.now reports.now) }
 {
     let jobs = plan.jobs();
-    if reports.len() != jobs.len() || !have_own_txns(reports) || !have_their_fates(core, reports) {
+    if reports.len() < jobs.len()
+        || !have_own_txns(reports)
+        || !have_their_fates(core, victims, reports)
+    {
         return Ok(false);
     }
     let events = core.history();
@@ -38,27 +44,44 @@ pub fn are_reports(
     Ok(are_accounted(events, reports))
 }
 
-/// Returns whether the transactions of the reports have committed or aborted as the reports say.
-fn have_their_fates(core: &Recorded, reports: &[Report]) -> bool
-    ensures { IsTrue result ↔ All (HasItsFate core.now.state) reports.now }
+/// Returns whether the transactions of the reports are committed or aborted as they say.
+fn have_their_fates(core: &Recorded, victims: &[TxnId], reports: &[Report]) -> bool
+    ensures { IsTrue result ↔ All (HasItsFate core.now.state victims.now) reports.now }
 {
     for report in reports {
-        if !has_its_fate(core, report) {
+        if !has_its_fate(core, victims, report) {
             return false;
         }
     }
     true
 }
 
-/// Returns whether the transaction of a report, if it has one, has committed or aborted as the
-/// report says.
-fn has_its_fate(core: &Recorded, report: &Report) -> bool
-    ensures { IsTrue result ↔ HasItsFate core.now.state report.now }
+/// Returns whether the transaction of a report, if it has one, is committed or aborted as it says,
+/// and was aborted to break a deadlock exactly if it says so.
+fn has_its_fate(core: &Recorded, victims: &[TxnId], report: &Report) -> bool
+    ensures { IsTrue result ↔ HasItsFate core.now.state victims.now report.now }
 {
     match report.txn {
         None => true,
-        Some(txn) => has_ended(core, txn, ends_committed(report.end)),
+        Some(txn) => {
+            has_ended(core, txn, ends_committed(report.end))
+                && ends_deadlocked(report.end) == is_victim(victims, txn)
+        }
     }
+}
+
+/// Returns whether the transaction of a job that ended so was aborted to break a deadlock.
+fn ends_deadlocked(end: End) -> bool
+    ensures { result ≡ ends_deadlocked end }
+{
+    matches!(end, End::Deadlock)
+}
+
+/// Returns whether a transaction is one of these.
+fn is_victim(victims: &[TxnId], txn: TxnId) -> bool
+    ensures { result ≡ is_victim victims.now txn }
+{
+    victims.iter().any(|victim| *victim == txn)
 }
 
 /// Returns whether each report is that of its job.
@@ -71,7 +94,7 @@ fn are_each(
     ensures { IfOk result (λ are. IsTrue are ↔ ((at : ℕ)
         → IsReportAt (told events.now) jobs.now reports.now at)) }
 {
-    for at in 0..jobs.len() {
+    for at in 0..reports.len() {
         if !is_report_at(alloc, events, jobs, reports, at)? {
             return Ok(false);
         }
@@ -79,7 +102,7 @@ fn are_each(
     Ok(true)
 }
 
-/// Returns whether the report at this place is that of the job at this place, if both exist.
+/// Returns whether the report at this place, if there is one, is that of its job.
 fn is_report_at(
     alloc: Global,
     events: &[Event],
@@ -89,25 +112,52 @@ fn is_report_at(
 ) -> Result<bool, Memory>
     ensures { IfOk result (λ is. IsTrue is ↔ IsReportAt (told events.now) jobs.now reports.now at) }
 {
-    let (Some(job), Some(report)) = (jobs.get(at), reports.get(at)) else {
+    let Some(report) = reports.get(at) else {
         return Ok(true);
+    };
+    let Some(job) = job_of(jobs, report) else {
+        return Ok(false);
     };
     if !is_done(alloc, job.steps.as_slice(), report)? {
         return Ok(false);
     }
-    Ok(
+    Ok(is_placed(jobs, at, report) && is_report_of(events, jobs, reports, job, report))
+}
+
+/// Returns whether a report is that of its job, wherever it is, if the job did what it reports.
+fn is_report_of(
+    events: &[Event],
+    jobs: &[Job],
+    reports: &[Report],
+    job: &Job,
+    report: &Report,
+) -> bool
+    ensures { (at : ℕ) → IsDone job.now.steps report.now.end report.now.calls
+        → is_placed jobs.now at report.now ≡ true
+        → IsTrue result ↔ IsReport (told events.now) jobs.now reports.now at job.now report.now }
+{
+    is_of_kind(job, report)
+        && has_rising_stamps(report.calls.as_slice())
+        && is_of_txn(events, jobs, reports, job, report)
+        && is_started(jobs, reports, job, report)
+        && comes_last(events, jobs, reports, job, report)
+        && may_end(
+            job.steps.as_slice(),
+            report.end,
+            is_spared(jobs, reports, job.name.as_bytes()),
+        )
+}
+
+/// Returns whether the report at this place is that of the job of this place, or after all those of
+/// an earlier try, which a deadlock ended.
+fn is_placed(jobs: &[Job], at: usize, report: &Report) -> bool
+    ensures { result ≡ is_placed jobs.now at report.now }
+{
+    if at < jobs.len() {
         report.job == at as u64
-            && is_of_kind(job, report)
-            && has_rising_stamps(report.calls.as_slice())
-            && is_of_txn(events, jobs, reports, job, report)
-            && is_started(jobs, reports, job, report)
-            && comes_last(events, jobs, reports, job, report)
-            && may_end(
-                job.steps.as_slice(),
-                report.end,
-                is_spared(jobs, reports, job.name.as_bytes()),
-            ),
-    )
+    } else {
+        ends_deadlocked(report.end)
+    }
 }
 
 /// Returns whether a report has exactly the calls that its transaction was granted, and the
@@ -185,7 +235,7 @@ fn may_leave_subjobs(steps: &[Step], end: End) -> bool
     ensures { result ≡ may_leave_subjobs steps.now end }
 {
     match end {
-        End::Waited | End::Refused(_) | End::NotStarted => true,
+        End::Waited | End::Refused(_) | End::Deadlock | End::NotStarted => true,
         End::Failed(number) => !comes_to_subs(steps, number),
         End::Committed | End::Aborted => false,
     }

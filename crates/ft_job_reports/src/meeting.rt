@@ -1,5 +1,5 @@
 // Whether the jobs did what the plan means.
-ghost use Rattle.std.specs.Prelude.{◌≡◌, ◌||◌, ◌&&◌, not};
+ghost use Rattle.std.specs.Prelude.{◌≡◌, ◌||◌, ◌&&◌, not, take};
 ghost use Rattle.std.specs.List.{list_all, list_any};
 ghost use Rattle.ft_plan.specs.Plans.{is_subjob_of};
 ghost use Rattle.ft_job_reports.specs.Reports.{are_met, ended_as_meant, ends_as_meant, is_must, is_must_of, is_spared, is_strict_job, is_subs_at, may_end, spares};
@@ -13,18 +13,21 @@ use ft_plan::{Job, JobKind, Step};
 pub fn are_met(jobs: &[Job], reports: &[Report]) -> bool
     ensures { result ≡ are_met jobs.now reports.now }
 {
-    !has_strict(jobs) || have_ended_as_meant(reports)
+    !has_strict(jobs) || have_ended_as_meant(reports, jobs.len())
 }
 
-/// Returns whether the jobs of all these reports were ended by their last steps.
-fn have_ended_as_meant(reports: &[Report]) -> bool
-    ensures { result ≡ list_all ended_as_meant reports.now }
+/// Returns whether the jobs of the first so many of these reports were ended by their last steps.
+fn have_ended_as_meant(reports: &[Report], count: usize) -> bool
+    ensures { result ≡ list_all ended_as_meant (take count reports.now) }
 {
-    reports.iter().all(|report| ended_as_meant(report))
+    reports
+        .iter()
+        .take(count)
+        .all(|report| ended_as_meant(report))
 }
 
 /// Returns whether one of the jobs is strict.
-fn has_strict(jobs: &[Job]) -> bool
+pub fn has_strict(jobs: &[Job]) -> bool
     ensures { result ≡ list_any is_strict_job jobs.now }
 {
     jobs.iter().any(|job| is_strict_job(job))
@@ -100,7 +103,7 @@ pub fn may_end(steps: &[Step], end: End, spared: bool) -> bool
         End::Committed | End::Aborted => spared,
         End::Failed(number) if is_subs_at(steps, number) => !spared,
         End::Failed(number) => spared || !comes_to_subs(steps, number),
-        End::Waited | End::Refused(_) | End::NotStarted => true,
+        End::Waited | End::Refused(_) | End::Deadlock | End::NotStarted => true,
     }
 }
 

@@ -1,6 +1,6 @@
 // Jobs by their names.
 ghost use Rattle.std.specs.Prelude.{◌≡◌, option_copied};
-ghost use Rattle.std.specs.List.{position};
+ghost use Rattle.std.specs.List.{position, slice_get};
 ghost use Rattle.ft_job_reports.specs.Reports.{is_named, report_of, txn_of};
 
 use crate::report::Report;
@@ -26,6 +26,13 @@ pub fn txn_of(jobs: &[Job], reports: &[Report], name: &[u8]) -> Option<TxnId>
     ensures { result ≡ txn_of jobs.now reports.now name.now }
 {
     report_of(jobs, reports, name)?.txn
+}
+
+/// The job that a report is of.
+pub fn job_of<'a>(jobs: &'a [Job], report: &Report) -> Option<&'a Job>
+    ensures { option_copied result ≡ slice_get jobs.now report.now.job }
+{
+    jobs.get(report.job as usize)
 }
 
 /// The report of the job of this name.

@@ -18,6 +18,8 @@ pub enum End {
     /// The step of this number, counted from 1, did not do what it requests, in a strict job, and
     /// then its transaction was aborted.
     Failed(u64),
+    /// Its transaction was on a cycle of waits, and was aborted to break it.
+    Deadlock,
     /// The job that it is a subjob of ended before it reached its subjobs.
     NotStarted,
 }
@@ -59,7 +61,7 @@ impl CallReport {
     }
 }
 
-/// The outcome of a job.
+/// The outcome of a job, or of an earlier try of it, which a deadlock ended.
 #[derive(Debug, PartialEq, Eq, Drop)]
 pub struct Report {
     /// The job's place in the plan. The first has the number 0.

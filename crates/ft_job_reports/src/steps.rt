@@ -235,7 +235,9 @@ fn is_at_end(steps: &[Step], end: End, extent: Extent) -> bool
     match end {
         End::Committed => extent == Extent::Whole && matches!(steps.last(), Some(Step::Commit)),
         End::Aborted => extent == Extent::Whole && matches!(steps.last(), Some(Step::Abort)),
-        End::Waited | End::Refused(_) | End::NotStarted => extent != Extent::Other,
+        End::Waited | End::Refused(_) | End::Deadlock | End::NotStarted => {
+            extent != Extent::Other
+        }
         End::Failed(_) => false,
     }
 }

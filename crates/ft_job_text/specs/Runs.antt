@@ -1,5 +1,5 @@
 -- The text that a run of a plan writes.
-use Rattle.std.specs.Prelude.{◌≡◌, ℕ, Bool, List, Option}
+use Rattle.std.specs.Prelude.{◌≡◌, ℕ, Bool, List, Option, All}
 use Rattle.std.specs.Io.KnownBytes.{Appends, Keeps}
 use Rattle.ft_cells.specs.Rows.{rows_of}
 use Rattle.ft_core.specs.States.{State, tree_of}
@@ -10,6 +10,7 @@ use Rattle.ft_plan.specs.Plans.{IsPlanOf}
 use Rattle.ft_words.specs.Texts.{tree_text}
 use Rattle.ft_job_reports.specs.Reports.{AreReports, are_met}
 use Rattle.ft_jobs.specs.declared.running.JobsOutcome.{JobsOutcome}
+use Rattle.ft_shared.specs.Victims.{WasVictim}
 use Rattle.ft_script.specs.Runs.{WritesPart}
 use Rattle.ft_job_text.specs.declared.running.RunFault.{RunFault}
 use Rattle.ft_job_text.specs.declared.running.RunFault.TheVariants as faults
@@ -25,7 +26,9 @@ text_of_outcome jobs outcome = outcome_text jobs outcome.reports.items outcome.c
 pub record IsTextOfJobs (met : Bool) (from : State) (jobs : List Job) (text : List ℕ) : Type 0 where
   pub outcome : JobsOutcome
   pub goes_on : GoesOn from outcome.core.state
-  pub reports : AreReports outcome.core.state jobs outcome.reports.items
+  pub reports : AreReports outcome.core.state jobs outcome.victims.items outcome.reports.items
+  -- each victim was aborted when it was the one on a cycle of waits that is to be aborted
+  pub victims : All (WasVictim outcome.core.state) outcome.victims.items
   pub told : text ≡ text_of_outcome jobs outcome
   pub as_meant : met ≡ are_met jobs outcome.reports.items
 

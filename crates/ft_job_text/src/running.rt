@@ -1,8 +1,9 @@
 // Runs a plan: reads it, runs its jobs in threads, and writes their outcome.
-ghost use Rattle.std.specs.Prelude.{◌≡◌, ◌≢◌, IfOk, IfErr, string_bytes};
+ghost use Rattle.std.specs.Prelude.{◌≡◌, ◌≢◌, IfOk, IfErr, All, string_bytes};
 ghost use Rattle.ft_core.specs.Living.{NoneIsLive};
 ghost use Rattle.ft_record.specs.Going.{GoesOn};
 ghost use Rattle.ft_job_reports.specs.Reports.{AreReports};
+ghost use Rattle.ft_shared.specs.Victims.{WasVictim};
 ghost use Rattle.ft_shared.specs.Origins.{without_views};
 ghost use Rattle.ft_job_text.specs.Runs.{IsTextOfJobs, RunsPlan, StopsPlan, text_of_outcome};
 
@@ -128,7 +129,10 @@ fn run_on<J: Sharing + Send + Sync, R: Threads + Wait + Clock + Sync, S: Write +
     requires none_live { NoneIsLive core.state }
     requires named { without_views core.state ≡ J.origin }
     ensures ok { IfOk result
-        (λ outcome. AreReports outcome.core.state run.entry.plan.now outcome.reports.items) }
+        (λ outcome. AreReports outcome.core.state run.entry.plan.now
+        outcome.victims.items outcome.reports.items) }
+    ensures victims { IfOk result
+        (λ outcome. All (WasVictim outcome.core.state) outcome.victims.items) }
     ensures core { IfOk result (λ outcome. GoesOn core.state outcome.core.state) }
     ensures cause { IfErr result (λ fault. fault ≢ JobFault.BadPlan) }
 {

@@ -1,9 +1,10 @@
 // The text of the outcome of jobs.
-ghost use Rattle.std.specs.Prelude.{◌≡◌, Some};
+ghost use Rattle.std.specs.Prelude.{◌≡◌, Some, drop, length};
 ghost use Rattle.std.specs.List.{flat_map, count_by};
-ghost use Rattle.ft_job_text.specs.Texts.{txn_text, end_text, job_text, jobs_text, is_call, event_text, history_text, outcome_text};
+ghost use Rattle.ft_job_text.specs.Texts.{txn_text, end_text, job_text, jobs_text, try_text, is_call, event_text, history_text, outcome_text};
 
 use ft_core::{Event, TxnId};
+use ft_job_reports::job_of;
 use ft_jobs::{End, Job, Report};
 use ft_line::fault_name;
 use ft_words::{CallText, ReplyText, TreeText};
@@ -15,7 +16,7 @@ use std::fmt;
 pub struct OutcomeText<'a> {
     /// The jobs of the plan.
     pub jobs: &'a [Job],
-    /// The report of each, in the same order.
+    /// The report of each, in the same order, and then those of earlier tries.
     pub reports: &'a [Report],
     /// The events.
     pub history: &'a [Event],
@@ -32,8 +33,12 @@ impl fmt::Display for OutcomeText<'_> {
             jobs: self.jobs,
             reports: self.reports,
         };
+        let tries = TryLines {
+            jobs: self.jobs,
+            tries: tries_of(self.jobs, self.reports),
+        };
         let history = HistoryText(self.history);
-        write!(f, "{jobs}{history}\n{}\n", self.tree)
+        write!(f, "{jobs}{tries}{history}\n{}\n", self.tree)
     }
 }
 
@@ -52,6 +57,57 @@ impl fmt::Display for JobLines<'_> {
             write!(f, "{}\n", JobText(job, report))?;
         }
         Ok(())
+    }
+}
+
+/// Returns the reports of earlier tries.
+#[tactic(auto, using(std::proofs::lemmas::List::drop_all))]
+fn tries_of<'a>(jobs: &[Job], reports: &'a [Report]) -> &'a [Report]
+    ensures { result.now ≡ drop (length jobs.now) reports.now }
+{
+    if reports.len() < jobs.len() {
+        return &[];
+    }
+    &reports[jobs.len()..]
+}
+
+/// Earlier tries of jobs, each with a line feed.
+#[derive(Clone, Copy)]
+struct TryLines<'a> {
+    jobs: &'a [Job],
+    tries: &'a [Report],
+}
+
+impl fmt::Display for TryLines<'_> {
+    ghost output = { λ lines. Some (flat_map (try_text lines.jobs.now) lines.tries.now) };
+
+    fn fmt<W: fmt::Write>(&self, f: &mut fmt::Formatter<W>) -> fmt::Result {
+        for report in self.tries {
+            write!(f, "{}", TryText(self.jobs, report))?;
+        }
+        Ok(())
+    }
+}
+
+/// An earlier try of a job, with its line feed, and nothing if there is no such job.
+#[derive(Clone, Copy)]
+struct TryText<'a>(&'a [Job], &'a Report);
+
+impl fmt::Display for TryText<'_> {
+    ghost output = { λ text. Some (try_text text.0.now text.1.now) };
+
+    fn fmt<W: fmt::Write>(&self, f: &mut fmt::Formatter<W>) -> fmt::Result {
+        let report = self.1;
+        match job_of(self.0, report) {
+            None => Ok(()),
+            Some(job) => write!(
+                f,
+                "try {} {} {}\n",
+                job.name,
+                TxnText(report.txn),
+                EndText(report.end)
+            ),
+        }
     }
 }
 
@@ -103,6 +159,7 @@ impl fmt::Display for EndText {
             End::Waited => f.write_str("waited"),
             End::Refused(fault) => write!(f, "refused {}", fault_name(fault)),
             End::Failed(number) => write!(f, "failed {number}"),
+            End::Deadlock => f.write_str("deadlock"),
             End::NotStarted => f.write_str("notstarted"),
         }
     }

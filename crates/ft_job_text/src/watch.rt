@@ -124,7 +124,7 @@ impl<'a> Watch<'a> {
 impl Gate for Watch<'_> {
     fn pass<R: Wait + Clock>(&self, rt: &R, job: u64, step: u64) {
         let place = self.place_at(job, step);
-        self.noted.lock(rt).go_on(job, place);
+        self.noted.lock(rt).go_on(job, step, place);
     }
 
     fn ended<R: Wait + Clock>(&self, rt: &R, job: u64) {
@@ -133,10 +133,11 @@ impl Gate for Watch<'_> {
 }
 
 impl Noted {
-    /// Notes that a job goes on, to this place: if it was at a call, that was granted.
-    fn go_on(&mut self, job: u64, place: Place) {
+    /// Notes that a job goes on, to this step and place: if it was at a call, that was granted,
+    /// unless it begins again.
+    fn go_on(&mut self, job: u64, step: u64, place: Place) {
         if let Some(here) = self.places.get_mut(job as usize) {
-            if matches!(*here, Place::Asks | Place::Waits) {
+            if step > 1 && matches!(*here, Place::Asks | Place::Waits) {
                 self.granted = self.granted.saturating_add(1);
             }
             *here = place;

@@ -1,6 +1,7 @@
 // The jobs of a plan, shown while they run.
-ghost use Rattle.std.specs.Prelude.{◌≢◌, IfOk, IfErr};
+ghost use Rattle.std.specs.Prelude.{◌≢◌, IfOk, IfErr, All};
 ghost use Rattle.ft_job_reports.specs.Reports.{AreReports};
+ghost use Rattle.ft_shared.specs.Victims.{WasVictim};
 
 use crate::job_run::JobRun;
 use crate::watch::Watch;
@@ -23,7 +24,10 @@ pub fn run_jobs_shown<M: Manager, R: Threads + Wait + Clock + Sync, S: Write + S
     run: JobRun<'_, S>,
 ) -> Result<JobsOutcome, JobFault>
     ensures ok { IfOk result
-        (λ outcome. AreReports outcome.core.state run.entry.plan.now outcome.reports.items) }
+        (λ outcome. AreReports outcome.core.state run.entry.plan.now
+        outcome.victims.items outcome.reports.items) }
+    ensures victims { IfOk result
+        (λ outcome. All (WasVictim outcome.core.state) outcome.victims.items) }
     ensures core { IfOk result (λ outcome. M.hands_back outcome.core.state) }
     ensures cause { IfErr result (λ fault. fault ≢ JobFault.BadPlan) }
 {
@@ -44,14 +48,17 @@ fn run_watched<M: Manager, R: Threads + Wait + Clock + Sync, S: Write + Send + D
     watch: &Watch<'_>,
 ) -> Result<JobsOutcome, JobFault>
     ensures ok { IfOk result
-        (λ outcome. AreReports outcome.core.state run.entry.plan.now outcome.reports.items) }
+        (λ outcome. AreReports outcome.core.state run.entry.plan.now
+        outcome.victims.items outcome.reports.items) }
+    ensures victims { IfOk result
+        (λ outcome. All (WasVictim outcome.core.state) outcome.victims.items) }
     ensures core { IfOk result (λ outcome. M.hands_back outcome.core.state) }
     ensures cause { IfErr result (λ fault. fault ≢ JobFault.BadPlan) }
 {
     let plan = run.plan;
     let reports = report_watched(rt, alloc, &manager, run, watch);
-    let core = manager.into_core(rt);
-    JobsOutcome::checked(alloc, plan, core, reports?)
+    let (core, victims) = manager.into_parts(rt);
+    JobsOutcome::checked(alloc, plan, core, victims, reports?)
 }
 
 /// Runs them so, and returns what they report.

@@ -5,7 +5,14 @@ use ft_core::TxnId;
 use ft_job_reports::{End, Report, ended_as_meant, is_must, place_of};
 use ft_plan::{Job, JobName};
 use std::alloc::Global;
-use std::sync::{Condvar, Mutex, Wait};
+use std::sync::{Condvar, CondvarTimeouts, Mutex, MutexGuard, Wait};
+use std::time::{Clock, Duration};
+
+/// How long a job rests at most before it begins again for the first time, in milliseconds. It is
+/// so much longer each time, up to `MOST_RESTS` times as long.
+const REST: u64 = 20;
+
+const MOST_RESTS: u64 = 10;
 
 /// The state of the jobs of a plan, which their threads share.
 #[derive(Drop)]
@@ -20,6 +27,10 @@ pub struct Board {
 struct Places {
     places: Vec<Place>,
     reports: Vec<Report>,
+    // How often a deadlock was broken, a call was granted or a job was begun again.
+    renewals: u64,
+    // How often a job has ended.
+    ends: u64,
 }
 
 /// A job among the others.
@@ -31,6 +42,8 @@ struct Place {
     is_must: bool,
     // The places of those that it comes after.
     after: Vec<usize>,
+    // How often it was begun again.
+    retries: u64,
     phase: Phase,
 }
 
@@ -73,7 +86,12 @@ impl Board {
             })?;
         }
         Ok(Board {
-            places: Mutex::new(Places { places, reports }),
+            places: Mutex::new(Places {
+                places,
+                reports,
+                renewals: 0,
+                ends: 0,
+            }),
             moved: Condvar::new(),
         })
     }
@@ -120,10 +138,53 @@ impl Board {
         self.moved.notify_all();
     }
 
-    /// Returns the reports of all jobs, in their order.
+    /// Returns how often a job was begun again.
+    pub fn retries<R: Wait>(&self, rt: &R, job: usize) -> u64 {
+        self.places.lock(rt).retries(job)
+    }
+
+    /// Rests before a job begins again, until another one has ended, or for a time that is longer
+    /// the oftener it was begun again.
+    pub fn rest<R: Wait + Clock>(&self, rt: &R, job: usize) {
+        let places = self.places.lock(rt);
+        let ends = places.ends;
+        let rests = places.retries(job).saturating_add(1).min(MOST_RESTS);
+        let most = Duration::from_millis(REST.saturating_mul(rests));
+        let (places, _) = self
+            .moved
+            .wait_timeout_while(rt, places, most, |places| places.ends == ends);
+        MutexGuard::unlock(places);
+    }
+
+    /// Lets a job begin again, with the report of the try that has ended. If there is not enough
+    /// memory for that, returns the report.
+    pub fn begin_again<R: Wait>(&self, rt: &R, job: usize, report: Report) -> Option<Report> {
+        let report = self.places.lock(rt).begin_again(job, report);
+        self.moved.notify_all();
+        report
+    }
+
+    /// Notes that a deadlock was broken or a call was granted.
+    pub fn renew<R: Wait>(&self, rt: &R) {
+        self.places.lock(rt).renew();
+    }
+
+    /// Returns how often a deadlock was broken, a call was granted, or a job was begun again or has
+    /// ended.
+    pub fn renewals<R: Wait>(&self, rt: &R) -> u64 {
+        let places = self.places.lock(rt);
+        places.renewals.saturating_add(places.ends)
+    }
+
+    /// Returns the reports of all jobs, in their order, and those of earlier tries after them.
     pub fn into_reports(self) -> Vec<Report> {
         let Board { places, moved: _ } = self;
-        let Places { places: _, reports } = places.into_inner();
+        let Places {
+            places: _,
+            reports,
+            renewals: _,
+            ends: _,
+        } = places.into_inner();
         reports
     }
 }
@@ -139,6 +200,7 @@ impl Place {
             parent,
             is_must: is_must(job.kind),
             after: places_of(alloc, jobs, job.after.as_slice())?,
+            retries: 0,
             phase: Phase::Ahead,
         })
     }
@@ -252,11 +314,40 @@ impl Places {
         }
     }
 
+    /// Returns how often a job was begun again.
+    fn retries(&self, job: usize) -> u64 {
+        match self.places.get(job) {
+            None => 0,
+            Some(place) => place.retries,
+        }
+    }
+
+    /// Lets a job begin again, with the report of the try that has ended. If there is not enough
+    /// memory for that, returns the report.
+    fn begin_again(&mut self, job: usize, report: Report) -> Option<Report> {
+        if self.reports.try_reserve(1).is_err() {
+            return Some(report);
+        }
+        let _ = self.reports.push(report);
+        self.renew();
+        if let Some(place) = self.places.get_mut(job) {
+            place.retries = place.retries.saturating_add(1);
+            place.phase = Phase::Ahead;
+        }
+        None
+    }
+
+    /// Notes that a deadlock was broken, a call was granted or a job was begun again.
+    fn renew(&mut self) {
+        self.renewals = self.renewals.saturating_add(1);
+    }
+
     /// Notes that a job has ended, with its report.
     fn end(&mut self, job: usize, report: Report) {
         if let Some(place) = self.reports.get_mut(job) {
             *place = report;
         }
         self.set_phase(job, Phase::Ended);
+        self.ends = self.ends.saturating_add(1);
     }
 }

@@ -3,9 +3,9 @@ ghost use Rattle.std.specs.Prelude.{◌≤◌};
 
 use crate::board::{Board, Start};
 use crate::gate::Gate;
-use ft_core::{Fault, Outcome, TxnId};
+use ft_core::{Call, Fault, Outcome, TxnId};
 use ft_job_reports::{
-    CallReport, End, Report, call_of_step, goes_on, is_strict, opened_descriptor,
+    CallReport, End, Report, call_of_step, comes_to_subs, goes_on, is_strict, opened_descriptor,
 };
 use ft_plan::{Job, Step};
 use ft_shared::Manager;
@@ -23,6 +23,8 @@ pub struct Work<'a, M, G> {
     pub board: &'a Board,
     /// How often a call is asked for.
     pub turns: u64,
+    /// How often a job is begun again; none if no deadlock is broken.
+    pub retries: Option<u64>,
     pub ghost some: { 1 ≤ turns },
 }
 
@@ -225,8 +227,9 @@ impl Run<'_> {
         let Ok(Some(call)) = call_of_step(work.alloc, step, self.descriptors.as_slice()) else {
             return Err(self.failing(End::Refused(Fault::Memory)));
         };
-        match work.manager.ask_wait(rt, self.txn, &call, work.turns) {
+        match ask_wait(rt, work, self.txn, &call) {
             Ok(Outcome::Granted { stamp, reply }) => {
+                note_grant(rt, work);
                 self.granted(step, CallReport { stamp, call, reply })
             }
             Ok(Outcome::Waits { .. }) => Err(self.failing(End::Waited)),
@@ -258,18 +261,123 @@ impl Run<'_> {
     /// Ends the job in this way. If one of its steps could not be made, its transaction is aborted
     /// first.
     fn finish<M: Manager, G: Gate, R: Wait + Clock>(self, rt: &R, work: &Work<'_, M, G>, how: End) {
-        if matches!(how, End::Waited | End::Refused(_) | End::Failed(_)) {
-            // It may have ended with one above it, and then this is refused.
-            let _ = work.manager.abort(rt, self.txn);
-        }
+        let end_of_it = self.end_at(rt, work, how);
+        let may_begin_again = !comes_to_subs(self.job.steps.as_slice(), self.number);
         let report = Report {
             job: self.at as u64,
             txn: Some(self.txn),
-            end: how,
+            end: end_of_it,
             calls: self.calls.into(),
         };
+        match end_of_it {
+            End::Deadlock if may_begin_again => begin_again(rt, work, report),
+            _ => end(rt, work, report),
+        }
+    }
+
+    /// Returns how the job ends, once its transaction is aborted if one of its steps could not be
+    /// made.
+    fn end_at<M: Manager, G: Gate, R: Wait + Clock>(
+        &self,
+        rt: &R,
+        work: &Work<'_, M, G>,
+        how: End,
+    ) -> End {
+        if !matches!(how, End::Waited | End::Refused(_) | End::Failed(_)) {
+            return how;
+        }
+        // It may have ended with one above it, or by itself to break a deadlock.
+        let is_aborted = work.manager.abort(rt, self.txn).is_ok();
+        if !is_aborted && work.manager.is_victim(rt, self.txn) {
+            return End::Deadlock;
+        }
+        how
+    }
+}
+
+/// Begins the job of a report again that a deadlock has ended, after a rest in which another one
+/// may end. If it has begun again as often as it may, it has ended.
+fn begin_again<M: Manager, G: Gate, R: Wait + Clock>(
+    rt: &R,
+    work: &Work<'_, M, G>,
+    report: Report,
+) {
+    let job = report.job as usize;
+    if work.board.retries(rt, job) >= work.retries.unwrap_or(0) {
+        end(rt, work, report);
+        return;
+    }
+    work.board.rest(rt, job);
+    if let Some(report) = work.board.begin_again(rt, job, report) {
         end(rt, work, report);
     }
+}
+
+/// How often a call is asked for before a deadlock is looked for. The number doubles from look to
+/// look, up to `MOST_TURNS`.
+const FIRST_TURNS: u64 = 2;
+
+/// How often a call is asked for between two looks for a deadlock at most.
+const MOST_TURNS: u64 = 16;
+
+/// Asks for a call, as often as it may be asked for. If deadlocks are broken, one is looked for
+/// after the call has waited twice, four times more and so on, and at the end.
+fn ask_wait<M: Manager, G: Gate, R: Wait + Clock>(
+    rt: &R,
+    work: &Work<'_, M, G>,
+    txn: TxnId,
+    call: &Call,
+) -> Result<Outcome, Fault> {
+    if work.retries.is_none() {
+        return work.manager.ask_wait(rt, txn, call, work.turns);
+    }
+    let mut renewals = work.board.renewals(rt);
+    let mut left = work.turns;
+    let mut turns = FIRST_TURNS;
+    let mut told = work.manager.ask_wait(rt, txn, call, left.min(turns));
+    for _ in rt.forever() {
+        if !matches!(told, Ok(Outcome::Waits { .. })) {
+            break;
+        }
+        left = left.saturating_sub(turns);
+        turns = turns.saturating_add(turns).min(MOST_TURNS);
+        if has_renewed(rt, work, &mut renewals) {
+            left = work.turns;
+        }
+        if left == 0 {
+            break;
+        }
+        told = work.manager.ask_wait(rt, txn, call, left.min(turns).max(1));
+    }
+    told
+}
+
+/// Notes that a call was granted, if those that wait have all their turns again then.
+fn note_grant<M: Manager, G: Gate, R: Wait>(rt: &R, work: &Work<'_, M, G>) {
+    if work.retries.is_some() {
+        work.board.renew(rt);
+    }
+}
+
+/// Breaks all deadlocks that there are, and returns whether one was broken, a call was granted, or
+/// a job was begun again or has ended, since the last look: then those that wait have all their
+/// turns again.
+fn has_renewed<M: Manager, G: Gate, R: Wait + Clock>(
+    rt: &R,
+    work: &Work<'_, M, G>,
+    seen: &mut u64,
+) -> bool {
+    for _ in rt.forever() {
+        // (if there is no memory for it, it is tried again later)
+        if !matches!(work.manager.break_deadlock(rt), Ok(Some(_))) {
+            break;
+        }
+        work.board.renew(rt);
+    }
+    let renewals = work.board.renewals(rt);
+    let has_renewed = renewals != *seen;
+    *seen = renewals;
+    has_renewed
 }
 
 /// Commits a job's transaction, and returns how the job ends.

@@ -1,14 +1,16 @@
 // All jobs of a plan, side by side.
-ghost use Rattle.std.specs.Prelude.{◌≡◌, ◌≢◌, ◌⊎◌, IfOk, IfErr, IsErrOf};
+ghost use Rattle.std.specs.Prelude.{◌≡◌, ◌≢◌, ◌⊎◌, IfOk, IfErr, IsErrOf, All};
 ghost use Rattle.ft_core.specs.Living.{NoneIsLive, SomeIsLive};
 ghost use Rattle.ft_job_reports.specs.Reports.{AreReports};
+ghost use Rattle.ft_shared.specs.Victims.{WasVictim};
 
 use crate::board::Board;
 use crate::gate::Gate;
 use crate::job_run::{Work, run_in_turn};
-use crate::pace::Pace;
-use ft_job_reports::{Report, are_reports};
-use ft_plan::{JobFault, Plan};
+use crate::pace::{Pace, USUAL_RETRIES};
+use ft_core::TxnId;
+use ft_job_reports::{Report, are_reports, has_strict};
+use ft_plan::{Job, JobFault, Plan};
 use ft_record::Recorded;
 use ft_shared::Manager;
 use std::alloc::Global;
@@ -21,12 +23,14 @@ use std::time::Clock;
 pub struct JobsOutcome {
     /// The core, after all jobs have ended.
     pub core: Recorded,
-    /// A report of each job, in the order of the plan.
+    /// The transactions that were aborted to break deadlocks.
+    pub victims: Vec<TxnId>,
+    /// A report of each job, in the order of the plan, and then one of each earlier try.
     pub reports: Vec<Report>,
 }
 
 impl JobsOutcome {
-    /// Returns the reports of the jobs of a plan, with the core that they left, once they are
+    /// Returns the reports of the jobs of a plan, with what their manager gave back, once they are
     /// compared with its history.
     ///
     /// Returns Mismatch if they are not what happened, or a transaction is live. At a fault the
@@ -35,28 +39,38 @@ impl JobsOutcome {
         alloc: Global,
         plan: &Plan,
         core: Recorded,
+        victims: Vec<TxnId>,
         reports: Vec<Report>,
     ) -> Result<JobsOutcome, JobFault>
         ensures same { IfOk result
-            (λ outcome. (outcome.core ≡ core) × (outcome.reports ≡ reports)) }
+            (λ outcome. (outcome.core ≡ core) × (outcome.victims ≡ victims)
+            × (outcome.reports ≡ reports)) }
         ensures ok { IfOk result
-            (λ outcome. AreReports outcome.core.state plan.now outcome.reports.items) }
+            (λ outcome. AreReports outcome.core.state plan.now outcome.victims.items
+            outcome.reports.items) }
         ensures none_live { IfOk result (λ outcome. NoneIsLive outcome.core.state) }
         ensures mismatch { IsErrOf result JobFault.Mismatch
-            → SomeIsLive core.state ⊎ ¬ AreReports core.state plan.now reports.items }
+            → SomeIsLive core.state
+            ⊎ ¬ AreReports core.state plan.now victims.items reports.items }
         ensures cause { IfErr result (λ fault. fault ≢ JobFault.BadPlan) }
     {
-        if core.has_live() || !are_reports(alloc, plan, &core, reports.as_slice())? {
+        if core.has_live()
+            || !are_reports(alloc, plan, &core, victims.as_slice(), reports.as_slice())?
+        {
             return Err(JobFault::Mismatch);
         }
-        Ok(JobsOutcome { core, reports })
+        Ok(JobsOutcome {
+            core,
+            victims,
+            reports,
+        })
     }
 }
 
 /// Runs the jobs of a plan in threads, each in a transaction of its own: a top job in one at the
 /// top; a subjob, once its parent has reached its `subs`, in one under its parent's; and a job that
-/// comes after others once these have committed. The pace gives the number of threads, and how
-/// often a call is asked for.
+/// comes after others once these have committed. The pace gives the number of threads, how often a
+/// call is asked for, and how often a job is begun again that was aborted to break a deadlock.
 ///
 /// At the end the reports are compared with the history, whatever the manager returned. Returns
 /// Mismatch if they are not what happened or a transaction is live, and Thread if a thread could
@@ -71,14 +85,17 @@ pub fn run_jobs<M: Manager, G: Gate, R: Threads + Wait + Clock + Sync>(
     pace: Pace,
 ) -> Result<JobsOutcome, JobFault>
     ensures ok { IfOk result
-        (λ outcome. AreReports outcome.core.state plan.now outcome.reports.items) }
+        (λ outcome. AreReports outcome.core.state plan.now outcome.victims.items
+        outcome.reports.items) }
     ensures core { IfOk result (λ outcome. M.hands_back outcome.core.state) }
+    ensures victims { IfOk result
+        (λ outcome. All (WasVictim outcome.core.state) outcome.victims.items) }
     ensures none_live { IfOk result (λ outcome. NoneIsLive outcome.core.state) }
     ensures cause { IfErr result (λ fault. fault ≢ JobFault.BadPlan) }
 {
     let run = run_jobs_unchecked(rt, alloc, plan, &manager, gate, pace);
-    let core = manager.into_core(rt);
-    JobsOutcome::checked(alloc, plan, core, run?)
+    let (core, victims) = manager.into_parts(rt);
+    JobsOutcome::checked(alloc, plan, core, victims, run?)
 }
 
 /// Runs the jobs of a plan as `run_jobs` does, and returns what they report, which is compared with
@@ -105,11 +122,21 @@ pub fn run_jobs_unchecked<M: Manager, G: Gate, R: Threads + Wait + Clock + Sync>
         gate,
         board: &board,
         turns: pace.turns,
+        retries: retries_of(pace, jobs),
     };
     if !start_all(rt, &work, pace.threads) {
         return Err(JobFault::Thread);
     }
     Ok(board.into_reports())
+}
+
+/// Returns how often each of these jobs is begun again at most; none if no deadlock of theirs is
+/// broken.
+fn retries_of(pace: Pace, jobs: &[Job]) -> Option<u64> {
+    if pace.retries.is_none() && has_strict(jobs) {
+        return Some(USUAL_RETRIES);
+    }
+    pace.retries
 }
 
 /// Starts a thread for each job, but at most this many, and waits until all have ended. Returns

@@ -112,12 +112,12 @@ module _ (L : Lawful posix_calls) where
 
         granted_kept : AreGranted t new txn xs → HasNoHolderAbove new forest
         granted_kept granted own other mine there held conflicts over =
-            elim (or_cases (has_lock t own) (is_given txn xs own) (sym (granted.lines own) ∙ mine)) [
-              | inl was ↦ elim (or_cases (has_lock t other) (is_given txn xs other) (sym (granted.lines other) ∙ there)) [
+            elim (or_cases (has_lock t own) (is_given txn xs own) (sym (granted.given.lines own) ∙ mine)) [
+              | inl was ↦ elim (or_cases (has_lock t other) (is_given txn xs other) (sym (granted.given.lines other) ∙ there)) [
                 | inl had ↦ before own other was had held conflicts over
                 | inr given ↦ new_above own other was given conflicts over
               ]
-              | inr new_one ↦ elim (or_cases (has_lock t other) (is_given txn xs other) (sym (granted.lines other) ∙ there)) [
+              | inr new_one ↦ elim (or_cases (has_lock t other) (is_given txn xs other) (sym (granted.given.lines other) ∙ there)) [
                 | inl had ↦ old_above own other new_one had held conflicts
                 | inr given ↦ (given_to other given).0 ∙ sym (given_to own new_one).0
               ]

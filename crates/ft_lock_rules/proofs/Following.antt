@@ -104,7 +104,7 @@ first_law l = set.contains-empty line_cmp l ∙ none (is_held l.kind)
     none false = refl
 
 pub release_law : ReleaseLaw
-release_law old mid new gone txn dropped released l = released.lines l ∙ ap (λ b. not (l.owner == txn) && b) (dropped l) ∙ nested (l.owner == txn) (gone l.owner) (has_lock old l)
+release_law old mid new gone txn dropped released l = released.freed.lines l ∙ ap (λ b. not (l.owner == txn) && b) (dropped l) ∙ nested (l.owner == txn) (gone l.owner) (has_lock old l)
   where
     nested : (a b c : Bool) → (not a && (not b && c)) ≡ (not (a || b) && c)
     nested true b c = refl
@@ -224,7 +224,7 @@ module _ (L : Lawful posix_calls) where
   pub grant_law : GrantLaw
   grant_law base sound h t locks c accesses new legal are granted l =
       let rule : LocksAfter posix_calls (Call c) h = theory.lock_rules posix_calls L base sound h (Call c) legal in
-      granted.lines l ∙ ap (λ b. b || (is_held l.kind && (l.owner == c.asker) && has_access accesses l.cell l.mode)) (locks l)
+      granted.given.lines l ∙ ap (λ b. b || (is_held l.kind && (l.owner == c.asker) && has_access accesses l.cell l.mode)) (locks l)
       ∙ grant_bools (is_held l.kind) (holds_lock posix_calls h l.owner (is_of l)) (retains_lock posix_calls h l.owner (is_of l))
       (l.owner == c.asker) (c.asker == l.owner) (has_access accesses l.cell l.mode) (is_of l c.accesses) (nat_eq_equiv.symm l.owner c.asker) (accessed_is l accesses ∙ ap (is_of l) (sym are))
       ∙ sym (λ i. cond (is_held l.kind) (rule.held l.owner (is_of l) i) (rule.retained l.owner (is_of l) i))
@@ -246,7 +246,7 @@ module _ (L : Lawful posix_calls) where
         ∙ sym (λ i. cond (is_held l.kind) (rule.held l.owner (is_of l) i) (rule.retained l.owner (is_of l) i));
     top = λ base sound h t locks txn new legal is released l.
         let rule : LocksAfter posix_calls (Commit txn) h = theory.lock_rules posix_calls L base sound h (Commit txn) legal in
-        released.lines l ∙ ap (λ b. not (l.owner == txn) && b) (locks l)
+        released.freed.lines l ∙ ap (λ b. not (l.owner == txn) && b) (locks l)
         ∙ top_bools (is_held l.kind) (l.owner == txn) (holds_lock posix_calls h l.owner (is_of l)) (retains_lock posix_calls h l.owner (is_of l)) (owns_lock posix_calls h txn (is_of l))
         ∙ sym (λ i. cond (is_held l.kind) (not (l.owner == txn) && holds_lock posix_calls h l.owner (is_of l))
         (not (l.owner == txn) && (retains_lock posix_calls h l.owner (is_of l) || (is_some_and (is i) (λ p. p == l.owner) && owns_lock posix_calls h txn (is_of l)))))

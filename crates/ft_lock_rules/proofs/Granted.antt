@@ -13,7 +13,7 @@ use Rattle.ft_lock_rules.specs.declared.line.LockLine.{LockLine}
 use Rattle.ft_lock_rules.specs.LockModes.{is_marked_of}
 use Rattle.ft_lock_rules.specs.Cells.{Cells, marks_at, released_owner}
 use Rattle.ft_lock_rules.specs.Holdings.{has_place, AreOpenStill}
-use Rattle.ft_lock_rules.specs.Locks.{is_held, same_mode, is_accessed, has_access, AreGranted, is_given}
+use Rattle.ft_lock_rules.specs.Locks.{is_held, same_mode, is_accessed, has_access, AreGiven, is_given}
 use Rattle.ft_lock_rules.specs.Seen.{has_mark_of, has_line, is_marked_at, table_of, IsKept}
 use Rattle.ft_lock_rules.proofs.Joining.{apart_test, itself}
 use Rattle.ft_lock_rules.proofs.Tables.{lines-seen, released_cells-seen, opened-seen, marked_by, marked_one, same_truth, same_lines, same_cells_set, same_numbers, line, line_of_mark, mark_of_line}
@@ -152,7 +152,7 @@ module _ (m n : Cells) (old new : Lists Cell) (txn : ℕ) (xs : List Access) (is
       of_zero c (inl e) = sym (kept.unmarked c) ∙ e
       of_zero c (inr e) = sym is_txn ∙ ap (λ u. u == released_owner) (sym e.0)
 
-  pub granted : AreGranted (table_of m old) (table_of n new) txn xs
+  pub granted : AreGiven (table_of m old) (table_of n new) txn xs
   granted = record {
     lines = λ l. lines-seen n new l ∙ granted_line l ∙ ap (λ b. b || is_given txn xs l) (sym (lines-seen m old l));
     released_cells = λ c. released_cells-seen n new c ∙ (λ i. granted_zero c i && not (granted_marked c i)) ∙ group (has_place m c released_owner) (is_marked_at m c) (is_accessed xs c)
@@ -177,6 +177,7 @@ ungranted m n old new same still kept = (
     lines = same_lines (table_of n new).lines (table_of m old).lines (λ l. lines-seen n new l ∙ ap (λ o. has_mark_of o l) (same l.cell l.owner) ∙ sym (lines-seen m old l)) i;
     released_cells = same_cells_set (table_of n new).released_cells (table_of m old).released_cells (λ c. released_cells-seen n new c ∙ (λ j. is_some (same c released_owner j) && not (marked c j)) ∙ sym (released_cells-seen m old c)) i;
     opened = same_numbers (table_of n new).opened (table_of m old).opened (λ u. opened-seen n new u ∙ ap (λ b. not (u == released_owner) && b) (still u) ∙ sym (opened-seen m old u)) i;
+    keeps_all = false;
   }),
 )
   where

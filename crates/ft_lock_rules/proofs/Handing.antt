@@ -19,7 +19,7 @@ use Rattle.ft_lock_rules.specs.declared.lock_modes.LockModes.{LockModes}
 use Rattle.ft_lock_rules.specs.LockModes.{no_marks, with_marks, as_retained, has_mark, is_marked_of}
 use Rattle.ft_lock_rules.specs.Cells.{Cells, marks_at, released_owner, joined_marks, passed_to, after_hand}
 use Rattle.ft_lock_rules.specs.Holdings.{has_place, AreOpenStill}
-use Rattle.ft_lock_rules.specs.Locks.{LockTable, line_cmp, no_locks, is_opened, is_held, AreInherited, AreReleased}
+use Rattle.ft_lock_rules.specs.Locks.{LockTable, line_cmp, no_locks, is_opened, is_held, AreInherited, AreFreed}
 use Rattle.ft_lock_rules.specs.Seen.{has_mark_of, has_line, is_marked_at, table_of, IsKept}
 use Rattle.ft_lock_rules.proofs.Places.{marks-missing}
 use Rattle.ft_lock_rules.proofs.Joining.{itself, apart_test}
@@ -350,11 +350,12 @@ module _ (m n : Cells) (child parent : ℕ) (is_child : (child == released_owner
           ∙ sym (λ i. not (l.owner == child) && (lines-seen m old l i || ((l.owner == parent) && not (is_held l.kind) && (lines-seen m old (line l.cell child l.mode Held) i || lines-seen m old (line l.cell child l.mode Retained) i))));
       released_cells = same_cells_set _ _ (λ c. released_cells-seen n (finite.remove mid child) c ∙ (λ i. is_some (inherited_at_zero c i) && not (inherited_marked c i)) ∙ sym (released_cells-seen m old c));
       opened = closed_opened m n old mid child still;
+      keeps_all = refl;
     }
 
 -- A transaction's locks are dropped.
 pub released : (m n : Cells) (txn : ℕ) (is_txn : (txn == released_owner) ≡ false) (after : (c : Cell) (u : ℕ) → marks_at n c u ≡ after_hand txn released_owner (marks_at m c) u)
-    (old mid : Lists Cell) → IsKept m old → AreOpenStill old mid → AreReleased (table_of m old) (table_of n (finite.remove mid txn)) txn
+    (old mid : Lists Cell) → IsKept m old → AreOpenStill old mid → AreFreed true (table_of m old) (table_of n (finite.remove mid txn)) txn
 released m n txn is_txn after old mid kept still = record {
   lines = λ l. lines-seen n (finite.remove mid txn) l ∙ released_lines m n txn is_txn after old kept l ∙ ap (λ b. not (l.owner == txn) && b) (sym (lines-seen m old l));
   released_cells = λ c. released_cells-seen n (finite.remove mid txn) c ∙ released_here m n txn is_txn after old kept c
@@ -413,9 +414,9 @@ module _ (t : LockTable) (m : Cells) (old : Lists Cell) (is : table_of m old ≡
       release_kept = subst (λ (x : Cells × Lists Cell). IsKept x.0 x.1) (λ i. (sym n_is i, sym (new_is ∙ ap (finite.remove mid) u_is) i))
           (released_kept m k txn txn_real released_so old mid kept still)
 
-      pub release_view : AreReleased t (table_of n new) txn
-      release_view = subst (λ x. AreReleased x (table_of n new) txn) is
-          (subst (λ x. AreReleased (table_of m old) x txn) gone (released m k txn txn_real released_so old mid kept still))
+      pub release_view : AreFreed true t (table_of n new) txn
+      release_view = subst (λ x. AreFreed true x (table_of n new) txn) is
+          (subst (λ x. AreFreed true (table_of m old) x txn) gone (released m k txn txn_real released_so old mid kept still))
 
   -- one more transaction is open
   pub open_view : (n : Cells) (new : Lists Cell) (u : ℕ) (l : List Cell) → n ≡ m → (u == released_owner) ≡ false → new ≡ finite.insert old u l
@@ -426,7 +427,7 @@ module _ (t : LockTable) (m : Cells) (old : Lists Cell) (is : table_of m old ≡
       ∙ ap (λ b. not (v == released_owner) && b) (ap is_some (finite.get-insert nat_cmp_total old u l v) ∙ put (eq_by_cmp nat_cmp v u) (finite.get old v))
       ∙ by_number v (eq_by_cmp nat_cmp v u) refl
       ∙ sym (set.contains-insert nat_cmp_total t.opened u v ∙ ap (λ b. eq_by_cmp nat_cmp v u || b) (ap (λ x. is_opened x v) (sym is) ∙ opened-seen m old v))) in
-      (λ i. table_of (n_is i) (new_is i)) ∙ (λ i. record { lines = (is i).lines; released_cells = (is i).released_cells; opened = opens i })
+      (λ i. table_of (n_is i) (new_is i)) ∙ (λ i. record { lines = (is i).lines; released_cells = (is i).released_cells; opened = opens i; keeps_all = (is i).keeps_all })
     where
       put : (b : Bool) (o : Option (List Cell)) → is_some (cond b (Some l) o) ≡ (b || is_some o)
       put true o = refl
@@ -475,6 +476,7 @@ seen_none m lists no_cells only = (
     lines = same_lines (table_of m lists).lines set.empty (λ l. lines-seen m lists l ∙ ap (λ o. has_mark_of o l) (nothing l.cell l.owner) ∙ sym (set.contains-empty line_cmp l)) i;
     released_cells = same_cells_set (table_of m lists).released_cells set.empty (λ c. released_cells-seen m lists c ∙ ap (λ o. is_some o && not (is_marked_at m c)) (nothing c released_owner) ∙ sym (set.contains-empty cell_cmp c)) i;
     opened = same_numbers (table_of m lists).opened set.empty (λ u. opened-seen m lists u ∙ nobody u (u == released_owner) refl ∙ sym (set.contains-empty nat_cmp u)) i;
+    keeps_all = false;
   }),
 )
   where

@@ -18,4 +18,5 @@ pub mod InTheWay
 pub mod Surveys
 pub mod Following
 pub mod Above
+pub mod Emptied
 pub mod Knowing

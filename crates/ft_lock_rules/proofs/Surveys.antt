@@ -22,7 +22,7 @@ use Rattle.ft_lock_rules.specs.declared.lock_modes.LockModes.{LockModes}
 use Rattle.ft_lock_rules.specs.LockModes.{has_mark, suffice_for}
 use Rattle.ft_lock_rules.specs.Cells.{Cells, marks_at, released_owner}
 use Rattle.ft_lock_rules.specs.Holdings.{has_place}
-use Rattle.ft_lock_rules.specs.Locks.{LockTable, has_lock, line_access, is_held, is_released, is_accessed, same_mode, AreGranted, is_given}
+use Rattle.ft_lock_rules.specs.Locks.{LockTable, has_lock, line_access, is_held, is_released, is_accessed, same_mode, AreGiven, is_given}
 use Rattle.ft_lock_rules.specs.Seen.{has_mark_of, has_line, table_of}
 use Rattle.ft_lock_rules.specs.declared.rule.Rule.{Rule}
 use Rattle.ft_lock_rules.specs.Rules.{is_strict}
@@ -107,8 +107,8 @@ holds_none m owner l given = absurd (false≢true (sym (none (is_held l.kind) (l
     none false b = refl
 
 -- To grant what is held already changes nothing.
-pub held_granted : (t : LockTable) (m : Cells) (lists : Lists Cell) → table_of m lists ≡ t → (txn : ℕ) (xs : List Access) → HoldsAll m txn xs → AreGranted t t txn xs
-held_granted t m lists is txn xs all = subst (λ u. AreGranted u u txn xs) is (record {
+pub held_granted : (t : LockTable) (m : Cells) (lists : Lists Cell) → table_of m lists ≡ t → (txn : ℕ) (xs : List Access) → HoldsAll m txn xs → AreGiven t t txn xs
+held_granted t m lists is txn xs all = subst (λ u. AreGiven u u txn xs) is (record {
   lines = λ l. absorbs (has_lock (table_of m lists) l) (is_given txn xs l) (λ given. lines-seen m lists l ∙ all l given);
   released_cells = λ c. by_test (is_accessed xs c)
       (λ k.

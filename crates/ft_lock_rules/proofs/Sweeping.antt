@@ -83,7 +83,7 @@ module _ (m n : Cells) (k : Cell) (after : (c : Cell) (u : ℕ) → marks_at n c
       let still = same_cells_set (table_of n new).released_cells (table_of m old).released_cells (λ c.
       released_cells-seen n new c ∙ (λ i. taken_place c i && not (taken_marked c i))
       ∙ by_cell c (same_cell c k) refl ∙ sym (released_cells-seen m old c)) in
-      λ i. record { lines = taken_lines i; released_cells = still i; opened = taken_opened i }
+      λ i. record { lines = taken_lines i; released_cells = still i; opened = taken_opened i; keeps_all = false }
     where
       not_zero : (u : ℕ) → is_some (marks_at n k u) ≡ true → (b : Bool) → (u == released_owner) ≡ b → (u == released_owner) ≡ false
       not_zero u place true e = absurd (false≢true (sym (ap is_some (after k u) ∙ ap (λ b. is_some (cond b None (marks_at m k u))) (λ i. (eq_by_cmp_equiv cell_cmp_total).refl k i && e i)) ∙ place))
@@ -119,7 +119,7 @@ module _ (m n : Cells) (k : Cell) (after : (c : Cell) (u : ℕ) → marks_at n c
         let less = same_cells_set (table_of n new).released_cells (set.remove (table_of m old).released_cells k) (λ c.
         released_cells-seen n new c ∙ (λ i. taken_place c i && not (taken_marked c i)) ∙ group (not (same_cell c k)) (has_place m c released_owner) (not (is_marked_at m c))
         ∙ ap (λ b. not (same_cell c k) && b) (sym (released_cells-seen m old c)) ∙ sym (set.contains-remove cell_cmp_total (table_of m old).released_cells k c)) in
-        λ i. record { lines = taken_lines i; released_cells = less i; opened = taken_opened i }
+        λ i. record { lines = taken_lines i; released_cells = less i; opened = taken_opened i; keeps_all = false }
       where
         group : (a b c : Bool) → (a && b && c) ≡ (a && (b && c))
         group true b c = refl

@@ -239,7 +239,7 @@ first_found p (x ∷ xs) e = by_head (p x) refl e (first_found p xs)
     by_head true h e more = (x, h, ap (λ b. b || list_any (same_line x) xs) (same_itself x))
     by_head false h e more = let found = more e in (found.0, found.1, ap (λ b. same_line found.0 x || b) found.2 ∙ or-true (same_line found.0 x))
 
-found_passes : (p : LockLine → Bool) (l : LockLine) → p l ≡ true → (ls : List LockLine) → list_any (same_line l) ls ≡ true → list_any p ls ≡ true
+pub found_passes : (p : LockLine → Bool) (l : LockLine) → p l ≡ true → (ls : List LockLine) → list_any (same_line l) ls ≡ true → list_any p ls ≡ true
 found_passes p l h [] e = absurd (false≢true e)
 found_passes p l h (x ∷ xs) e = by_head (same_line l x) refl e (found_passes p l h xs)
   where

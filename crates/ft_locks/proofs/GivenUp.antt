@@ -25,8 +25,8 @@ use Rattle.ft_lock_rules.specs.LockModes.{is_marked_of}
 use Rattle.ft_lock_rules.specs.CellLocks.{Owners}
 use Rattle.ft_lock_rules.specs.Cells.{Cells, Keyed, marks_at, after_hand, released_owner}
 use Rattle.ft_lock_rules.specs.Holdings.{Held, AreSingle, AreOpenStill, AreJoined, AreUsed, has_place, cells_under, lists_under}
-use Rattle.ft_lock_rules.specs.Seen.{has_mark_of, is_marked_at, table_of, IsKept}
-use Rattle.ft_lock_rules.specs.Locks.{LockTable, no_locks, has_lock, is_locked, is_released, is_held, same_mode, has_access, is_accessed, AreGranted, AreInherited, AreReleased, AreListed, AreBlockers, IsInTheWay}
+use Rattle.ft_lock_rules.specs.Seen.{has_mark_of, is_marked_at, keeps_of, is_kept_among, is_kept_at, table_of, IsKept}
+use Rattle.ft_lock_rules.specs.Locks.{LockTable, no_locks, has_lock, is_locked, is_released, is_held, same_mode, has_access, is_accessed, is_kept_by, is_kept, may_be_useless, AreGiven, AreGranted, AreInherited, AreFreed, AreReleased, AreListed, AreBlockers, IsInTheWay}
 use Rattle.ft_lock_rules.specs.Knowing.{is_known}
 use Rattle.ft_lock_rules.proofs.CellViews.{key_in}
 use Rattle.ft_lock_rules.proofs.Paired.{the_one, tied}
@@ -35,220 +35,222 @@ use Rattle.ft_lock_rules.proofs.Joining.{itself, apart_test, list-insert}
 use Rattle.ft_lock_rules.proofs.Tables.{line, cell_locked, lines-seen, locked-seen, released_cells-seen, marked_by, marked_one, same_truth, same_cells_set}
 use Rattle.ft_lock_rules.proofs.Under.{list-under, none-under}
 use Rattle.ft_lock_rules.proofs.Handing.{closed_opened, released, released_kept}
-use Rattle.ft_lock_rules.proofs.Knowing.{known_law}
+use Rattle.ft_lock_rules.proofs.Knowing.{known_law, still-kept, kept-locked}
+use Rattle.ft_lock_rules.proofs.Emptied.{keeps-none, among-one, kept-seen}
 use Rattle.ft_lock_rules.proofs.Granted.{some_access}
 use Rattle.ft_locks.specs.declared.cells.Locked.{Locked}
 use Rattle.ft_locks.specs.Slots.{at_of, keys_in, cells_of, AreKeyed, owners_of}
-use Rattle.ft_locks.specs.BulkReleased.{IsAllOf, has_lock_among, left_in, left_from, is_left, with_bulk, EndBefore, IsTaken}
+use Rattle.ft_locks.specs.BulkReleased.{IsAllOf, has_keeper, left_in, left_from, is_left, with_bulk, seen_as, EndBefore, IsTaken}
 use Rattle.ft_locks.proofs.Slots.{at-there, at-none, get-cells, cells-there, any_there, there_any, same_itself, some_and}
 
--- What is seen of it, cell by cell.
-pub gone-seen : (bulk : List (ℕ × Locked)) (t : LockTable) (c : Cell) → is_released (with_bulk bulk t) c ≡ (is_released t c || (not (is_locked t c) && is_left bulk c))
-gone-seen bulk t c =
-    set.contains-union cell_cmp_total t.released_cells (set.from_list (filter (λ k. not (is_locked t k)) (left_in bulk))) c
-    ∙ ap (λ b. is_released t c || b)
-    (set.contains-from_list cell_cmp_total (filter (λ k. not (is_locked t k)) (left_in bulk)) c
-    ∙ any-filter_same (same_cell c) (λ k. not (is_locked t k)) (not (is_locked t c)) (λ k tied. ap (λ d. not (is_locked t d)) (sym (same_cell-is c k tied))) (left_in bulk))
+module _ (all : Bool) where
+  -- What is seen of it, cell by cell.
+  pub gone-seen : (bulk : List (ℕ × Locked)) (t : LockTable) (c : Cell) → is_released (with_bulk all bulk t) c ≡ (is_released t c || (not (is_locked t c) && is_left all bulk c))
+  gone-seen bulk t c =
+      set.contains-union cell_cmp_total t.released_cells (set.from_list (filter (λ k. not (is_locked t k)) (left_in all bulk))) c
+      ∙ ap (λ b. is_released t c || b)
+      (set.contains-from_list cell_cmp_total (filter (λ k. not (is_locked t k)) (left_in all bulk)) c
+      ∙ any-filter_same (same_cell c) (λ k. not (is_locked t k)) (not (is_locked t c)) (λ k tied. ap (λ d. not (is_locked t d)) (sym (same_cell-is c k tied))) (left_in all bulk))
 
--- two tables with the same locks and the same open transactions, whose cells that were let go are
--- the same, are one
-same_table : (s t : LockTable) → s.lines ≡ t.lines → ((c : Cell) → is_released s c ≡ is_released t c) → s.opened ≡ t.opened → s ≡ t
-same_table s t lines same opened = λ i. record { lines = lines i; released_cells = same_cells_set s.released_cells t.released_cells same i; opened = opened i }
+  -- two tables with the same locks and the same open transactions, whose cells that were let go are
+  -- the same, are one
+  same_table : (s t : LockTable) → s.lines ≡ t.lines → ((c : Cell) → is_released s c ≡ is_released t c) → s.opened ≡ t.opened → s.keeps_all ≡ t.keeps_all → s ≡ t
+  same_table s t lines same opened keeps = λ i. record { lines = lines i; released_cells = same_cells_set s.released_cells t.released_cells same i; opened = opened i; keeps_all = keeps i }
 
-or_nothing : (a b : Bool) → (a || (b && false)) ≡ a
-or_nothing true b = refl
-or_nothing false true = refl
-or_nothing false false = refl
+  or_nothing : (a b : Bool) → (a || (b && false)) ≡ a
+  or_nothing true b = refl
+  or_nothing false true = refl
+  or_nothing false false = refl
 
--- where none is left nothing is let go besides
-pub gone-none : (bulk : List (ℕ × Locked)) (t : LockTable) → bulk ≡ [] → with_bulk bulk t ≡ t
-gone-none bulk t none = ap (λ g. with_bulk g t) none ∙ same_table (with_bulk [] t) t refl (λ c. gone-seen [] t c ∙ or_nothing (is_released t c) (not (is_locked t c))) refl
+  -- where none is left nothing is let go besides
+  pub gone-none : (bulk : List (ℕ × Locked)) (t : LockTable) → bulk ≡ [] → with_bulk all bulk t ≡ t
+  gone-none bulk t none = ap (λ g. with_bulk all g t) none ∙ same_table (with_bulk all [] t) t refl (λ c. gone-seen [] t c ∙ or_nothing (is_released t c) (not (is_locked t c))) refl refl
 
--- Locks come and go.
+  -- Locks come and go.
 
-given_bits : (g l a x : Bool) → ((g && not a) || (not (l || a) && x)) ≡ ((g || (not l && x)) && not a)
-given_bits true true true x = refl
-given_bits true true false x = refl
-given_bits true false true x = refl
-given_bits true false false x = refl
-given_bits false true true x = refl
-given_bits false true false x = refl
-given_bits false false true true = refl
-given_bits false false true false = refl
-given_bits false false false true = refl
-given_bits false false false false = refl
+  given_bits : (g l a x : Bool) → ((g && not a) || (not (l || a) && x)) ≡ ((g || (not l && x)) && not a)
+  given_bits true true true x = refl
+  given_bits true true false x = refl
+  given_bits true false true x = refl
+  given_bits true false false x = refl
+  given_bits false true true x = refl
+  given_bits false true false x = refl
+  given_bits false false true true = refl
+  given_bits false false true false = refl
+  given_bits false false false true = refl
+  given_bits false false false false = refl
 
-released_bits : (a l m x : Bool) → (m ≡ true → l ≡ true) → ((a || (l && not m)) || (not m && x)) ≡ ((a || (not l && x)) || (l && not m))
-released_bits a false true x still = absurd (false≢true (still refl))
-released_bits true true true x still = refl
-released_bits false true true x still = refl
-released_bits true true false x still = refl
-released_bits false true false x still = refl
-released_bits true false false x still = refl
-released_bits false false false true still = refl
-released_bits false false false false still = refl
+  released_bits : (a l m x : Bool) → (m ≡ true → l ≡ true) → ((a || (l && not m)) || (not m && x)) ≡ ((a || (not l && x)) || (l && not m))
+  released_bits a false true x still = absurd (false≢true (still refl))
+  released_bits true true true x still = refl
+  released_bits false true true x still = refl
+  released_bits true true false x still = refl
+  released_bits false true false x still = refl
+  released_bits true false false x still = refl
+  released_bits false false false true still = refl
+  released_bits false false false false still = refl
 
--- what is accessed in a mode is accessed
-access_cell : (xs : List Access) (c : Cell) (mode : Mode) → has_access xs c mode ≡ true → is_accessed xs c ≡ true
-access_cell [] c mode e = e
-access_cell (a ∷ xs) c mode e = by_head (same_cell a.cell c) (same_mode a.mode mode) e (access_cell xs c mode)
-  where
-    by_head : (p q : Bool) → ((p && q) || has_access xs c mode) ≡ true → (has_access xs c mode ≡ true → is_accessed xs c ≡ true) → (p || is_accessed xs c) ≡ true
-    by_head true q h later = refl
-    by_head false q h later = later h
+  -- what is accessed in a mode is accessed
+  access_cell : (xs : List Access) (c : Cell) (mode : Mode) → has_access xs c mode ≡ true → is_accessed xs c ≡ true
+  access_cell [] c mode e = e
+  access_cell (a ∷ xs) c mode e = by_head (same_cell a.cell c) (same_mode a.mode mode) e (access_cell xs c mode)
+    where
+      by_head : (p q : Bool) → ((p && q) || has_access xs c mode) ≡ true → (has_access xs c mode ≡ true → is_accessed xs c ≡ true) → (p || is_accessed xs c) ≡ true
+      by_head true q h later = refl
+      by_head false q h later = later h
 
-module _ (bulk : List (ℕ × Locked)) (t s : LockTable) where
-  module _ (txn : ℕ) (accesses : List Access) (are : AreGranted t s txn accesses) where
-    granted_locked : (c : Cell) → is_locked s c ≡ (is_locked t c || is_accessed accesses c)
-    granted_locked c = same_truth _ _
-        (λ locked.
-        let one = known_law.locked s c locked in
-        elim (or_cases (has_lock t one.0) _ (sym (are.lines one.0) ∙ one.1)) [
-          | inl was ↦ or_left (is_locked t c) (is_accessed accesses c) (subst (λ d. is_locked t d ≡ true) one.2 (cell_locked t one.0 was))
-          | inr given ↦ or_right (is_locked t c) (is_accessed accesses c)
-              (subst (λ d. is_accessed accesses d ≡ true) one.2 (access_cell accesses one.0.cell one.0.mode (and_parts (is_held one.0.kind && (one.0.owner == txn)) _ given).1))
-        ])
-        (λ either. elim (or_cases (is_locked t c) (is_accessed accesses c) either) [
-          | inl was ↦
-              let one = known_law.locked t c was in
-              subst (λ d. is_locked s d ≡ true) one.2 (cell_locked s one.0 (are.lines one.0 ∙ or_left (has_lock t one.0) _ one.1))
-          | inr accessed ↦
-              let mode = some_access accesses c accessed in
-              let new : LockLine = line c txn mode.0 HeldKind in
-              cell_locked s new (are.lines new ∙ or_right (has_lock t new) _ (λ i. true && itself txn i && mode.1 i))
-        ])
+  module _ (bulk : List (ℕ × Locked)) (t s : LockTable) where
+    module _ (txn : ℕ) (accesses : List Access) (are : AreGiven t s txn accesses) where
+      granted_locked : (c : Cell) → is_locked s c ≡ (is_locked t c || is_accessed accesses c)
+      granted_locked c = same_truth _ _
+          (λ locked.
+          let one = known_law.locked s c locked in
+          elim (or_cases (has_lock t one.0) _ (sym (are.lines one.0) ∙ one.1)) [
+            | inl was ↦ or_left (is_locked t c) (is_accessed accesses c) (subst (λ d. is_locked t d ≡ true) one.2 (cell_locked t one.0 was))
+            | inr given ↦ or_right (is_locked t c) (is_accessed accesses c)
+                (subst (λ d. is_accessed accesses d ≡ true) one.2 (access_cell accesses one.0.cell one.0.mode (and_parts (is_held one.0.kind && (one.0.owner == txn)) _ given).1))
+          ])
+          (λ either. elim (or_cases (is_locked t c) (is_accessed accesses c) either) [
+            | inl was ↦
+                let one = known_law.locked t c was in
+                subst (λ d. is_locked s d ≡ true) one.2 (cell_locked s one.0 (are.lines one.0 ∙ or_left (has_lock t one.0) _ one.1))
+            | inr accessed ↦
+                let mode = some_access accesses c accessed in
+                let new : LockLine = line c txn mode.0 HeldKind in
+                cell_locked s new (are.lines new ∙ or_right (has_lock t new) _ (λ i. true && itself txn i && mode.1 i))
+          ])
 
-    pub granted-gone : AreGranted (with_bulk bulk t) (with_bulk bulk s) txn accesses
-    granted-gone = record {
+      pub granted-gone : AreGiven (with_bulk all bulk t) (with_bulk all bulk s) txn accesses
+      granted-gone = record {
+        lines = are.lines;
+        released_cells = λ c. gone-seen bulk s c ∙ (λ i. are.released_cells c i || (not (granted_locked c i) && is_left all bulk c))
+            ∙ given_bits (is_released t c) (is_locked t c) (is_accessed accesses c) (is_left all bulk c)
+            ∙ ap (λ b. b && not (is_accessed accesses c)) (sym (gone-seen bulk t c));
+        opened = are.opened;
+      }
+
+    -- where the same cells are locked
+    module _ (locked : (c : Cell) → is_locked s c ≡ is_locked t c) where
+      same-released_cells : s.released_cells ≡ t.released_cells → (with_bulk all bulk s).released_cells ≡ (with_bulk all bulk t).released_cells
+      same-released_cells same = same_cells_set _ _ (λ c. gone-seen bulk s c ∙ (λ i. set.contains (same i) c || (not (locked c i) && is_left all bulk c)) ∙ sym (gone-seen bulk t c))
+
+      pub inherited-gone : (child parent : ℕ) → AreInherited t s child parent → AreInherited (with_bulk all bulk t) (with_bulk all bulk s) child parent
+      inherited-gone child parent are = record { lines = are.lines; released_cells = same-released_cells are.released_cells; opened = are.opened; keeps_all = are.keeps_all }
+
+    pub released-gone : (txn : ℕ) → AreFreed true t s txn → AreFreed true (with_bulk all bulk t) (with_bulk all bulk s) txn
+    released-gone txn are = record {
       lines = are.lines;
-      released_cells = λ c. gone-seen bulk s c ∙ (λ i. are.released_cells c i || (not (granted_locked c i) && is_left bulk c))
-          ∙ given_bits (is_released t c) (is_locked t c) (is_accessed accesses c) (is_left bulk c)
-          ∙ ap (λ b. b && not (is_accessed accesses c)) (sym (gone-seen bulk t c));
+      released_cells = λ c. gone-seen bulk s c ∙ ap (λ b. b || (not (is_locked s c) && is_left all bulk c)) (are.released_cells c)
+          ∙ released_bits (is_released t c) (is_locked t c) (is_locked s c) (is_left all bulk c) (λ locked.
+          let one = known_law.locked s c locked in
+          subst (λ d. is_locked t d ≡ true) one.2 (cell_locked t one.0 (and_parts (not (one.0.owner == txn)) (has_lock t one.0) (sym (are.lines one.0) ∙ one.1)).1))
+          ∙ ap (λ b. b || (is_locked t c && not (is_locked s c))) (sym (gone-seen bulk t c));
       opened = are.opened;
     }
 
-  -- where the same cells are locked
-  module _ (locked : (c : Cell) → is_locked s c ≡ is_locked t c) where
-    same-released_cells : s.released_cells ≡ t.released_cells → (with_bulk bulk s).released_cells ≡ (with_bulk bulk t).released_cells
-    same-released_cells same = same_cells_set _ _ (λ c. gone-seen bulk s c ∙ (λ i. set.contains (same i) c || (not (locked c i) && is_left bulk c)) ∙ sym (gone-seen bulk t c))
+  -- What is told of the locks alone.
+  module _ (k : Bool) (bulk : List (ℕ × Locked)) (t : LockTable) where
+    in_way : (rule : Rule) (forest : Transactions) (txn : ℕ) (accesses : List Access) (y : ℕ) → IsInTheWay rule t forest txn accesses y → IsInTheWay rule (seen_as k (with_bulk all bulk t)) forest txn accesses y
+    in_way rule forest txn accesses y w = record { line = w.line; there = w.there; owner = w.owner; conflicts = w.conflicts; counted = w.counted }
 
-    pub inherited-gone : (child parent : ℕ) → AreInherited t s child parent → AreInherited (with_bulk bulk t) (with_bulk bulk s) child parent
-    inherited-gone child parent are = record { lines = are.lines; released_cells = same-released_cells are.released_cells; opened = are.opened }
+    in_way_back : (rule : Rule) (forest : Transactions) (txn : ℕ) (accesses : List Access) (y : ℕ) → IsInTheWay rule (seen_as k (with_bulk all bulk t)) forest txn accesses y → IsInTheWay rule t forest txn accesses y
+    in_way_back rule forest txn accesses y w = record { line = w.line; there = w.there; owner = w.owner; conflicts = w.conflicts; counted = w.counted }
 
-  pub released-gone : (txn : ℕ) → AreReleased t s txn → AreReleased (with_bulk bulk t) (with_bulk bulk s) txn
-  released-gone txn are = record {
-    lines = are.lines;
-    released_cells = λ c. gone-seen bulk s c ∙ ap (λ b. b || (not (is_locked s c) && is_left bulk c)) (are.released_cells c)
-        ∙ released_bits (is_released t c) (is_locked t c) (is_locked s c) (is_left bulk c) (λ locked.
-        let one = known_law.locked s c locked in
-        subst (λ d. is_locked t d ≡ true) one.2 (cell_locked t one.0 (and_parts (not (one.0.owner == txn)) (has_lock t one.0) (sym (are.lines one.0) ∙ one.1)).1))
-        ∙ ap (λ b. b || (is_locked t c && not (is_locked s c))) (sym (gone-seen bulk t c));
-    opened = are.opened;
-  }
+    pub blockers-gone : (rule : Rule) (forest : Transactions) (txn : ℕ) (accesses : List Access) (ys : List ℕ) → AreBlockers rule t forest txn accesses ys → AreBlockers rule (seen_as k (with_bulk all bulk t)) forest txn accesses ys
+    blockers-gone rule forest txn accesses ys are = record {
+      rising = are.rising;
+      sound = λ y there. in_way rule forest txn accesses y (are.sound y there);
+      all = λ y w. are.all y (in_way_back rule forest txn accesses y w);
+    }
 
--- What is told of the locks alone.
-module _ (bulk : List (ℕ × Locked)) (t : LockTable) where
-  in_way : (rule : Rule) (forest : Transactions) (txn : ℕ) (accesses : List Access) (y : ℕ) → IsInTheWay rule t forest txn accesses y → IsInTheWay rule (with_bulk bulk t) forest txn accesses y
-  in_way rule forest txn accesses y w = record { line = w.line; there = w.there; owner = w.owner; conflicts = w.conflicts; counted = w.counted }
+    pub listed-gone : (lines : List LockLine) → AreListed t lines → AreListed (seen_as k (with_bulk all bulk t)) lines
+    listed-gone lines are = record { order = are.order; exact = are.exact }
 
-  in_way_back : (rule : Rule) (forest : Transactions) (txn : ℕ) (accesses : List Access) (y : ℕ) → IsInTheWay rule (with_bulk bulk t) forest txn accesses y → IsInTheWay rule t forest txn accesses y
-  in_way_back rule forest txn accesses y w = record { line = w.line; there = w.there; owner = w.owner; conflicts = w.conflicts; counted = w.counted }
+  -- The first of them goes.
+  module _ (bulk rest : List (ℕ × Locked)) (e : ℕ × Locked) (first : bulk ≡ e ∷ rest) (t : LockTable) where
+    -- on whose cell nobody had a lock
+    pub passed-unlocked : has_keeper all e.1 ≡ false → left_in all bulk ≡ left_in all rest
+    passed-unlocked none = ap (left_in all) first ∙ ap (λ b. cond b (e.1.cell ∷ left_in all rest) (left_in all rest)) none
 
-  pub blockers-gone : (rule : Rule) (forest : Transactions) (txn : ℕ) (accesses : List Access) (ys : List ℕ) → AreBlockers rule t forest txn accesses ys → AreBlockers rule (with_bulk bulk t) forest txn accesses ys
-  blockers-gone rule forest txn accesses ys are = record {
-    rising = are.rising;
-    sound = λ y there. in_way rule forest txn accesses y (are.sound y there);
-    all = λ y w. are.all y (in_way_back rule forest txn accesses y w);
-  }
-
-  pub listed-gone : (lines : List LockLine) → AreListed t lines → AreListed (with_bulk bulk t) lines
-  listed-gone lines are = record { order = are.order; exact = are.exact }
-
--- The first of them goes.
-module _ (bulk rest : List (ℕ × Locked)) (e : ℕ × Locked) (first : bulk ≡ e ∷ rest) (t : LockTable) where
-  -- on whose cell nobody had a lock
-  pub passed-unlocked : has_lock_among e.1.holders ≡ false → left_in bulk ≡ left_in rest
-  passed-unlocked none = ap left_in first ∙ ap (λ b. cond b (e.1.cell ∷ left_in rest) (left_in rest)) none
-
-  pub passed-single : AreSingle (left_in bulk) → AreSingle (left_in rest)
-  passed-single single = by_lock (has_lock_among e.1.holders) (subst (λ g. AreSingle (left_in g)) first single)
-    where
-      by_lock : (b : Bool) → AreSingle (cond b (e.1.cell ∷ left_in rest) (left_in rest)) → AreSingle (left_in rest)
-      by_lock true both = both.1
-      by_lock false more = more
-
-  module _ (locked : has_lock_among e.1.holders ≡ true) where
-    left_first : (c : Cell) → is_left bulk c ≡ (same_cell c e.1.cell || is_left rest c)
-    left_first c = ap (λ g. is_left g c) first ∙ ap (λ b. list_any (same_cell c) (cond b (e.1.cell ∷ left_in rest) (left_in rest))) locked
-
-    -- which is known besides
-    pub passed-known : is_known t e.1.cell ≡ true → with_bulk rest t ≡ with_bulk bulk t
-    passed-known known = same_table _ _ refl (λ c. gone-seen rest t c ∙ by_cell c (same_cell c e.1.cell) refl ∙ ap (λ b. is_released t c || (not (is_locked t c) && b)) (sym (left_first c)) ∙ sym (gone-seen bulk t c)) refl
+    pub passed-single : AreSingle (left_in all bulk) → AreSingle (left_in all rest)
+    passed-single single = by_lock (has_keeper all e.1) (subst (λ g. AreSingle (left_in all g)) first single)
       where
-        bits : (l g x : Bool) → (l || g) ≡ true → (g || (not l && x)) ≡ (g || (not l && true))
-        bits true g x h = refl
-        bits false true x h = refl
-        bits false false x h = absurd (false≢true h)
+        by_lock : (b : Bool) → AreSingle (cond b (e.1.cell ∷ left_in all rest) (left_in all rest)) → AreSingle (left_in all rest)
+        by_lock true both = both.1
+        by_lock false more = more
 
-        by_cell : (c : Cell) (b : Bool) → same_cell c e.1.cell ≡ b → (is_released t c || (not (is_locked t c) && is_left rest c)) ≡ (is_released t c || (not (is_locked t c) && (same_cell c e.1.cell || is_left rest c)))
-        by_cell c true is =
-            bits (is_locked t c) (is_released t c) (is_left rest c) (ap (is_known t) (same_cell-is c e.1.cell is) ∙ known)
-            ∙ ap (λ b. is_released t c || (not (is_locked t c) && (b || is_left rest c))) (sym is)
-        by_cell c false is = ap (λ b. is_released t c || (not (is_locked t c) && (b || is_left rest c))) (sym is)
+    module _ (locked : has_keeper all e.1 ≡ true) where
+      left_first : (c : Cell) → is_left all bulk c ≡ (same_cell c e.1.cell || is_left all rest c)
+      left_first c = ap (λ g. is_left all g c) first ∙ ap (λ b. list_any (same_cell c) (cond b (e.1.cell ∷ left_in all rest) (left_in all rest))) locked
 
-    -- which is not known besides
-    module _ (unknown : is_known t e.1.cell ≡ false) (single : AreSingle (left_in bulk)) where
-      parts : (is_locked t e.1.cell ≡ false) × (is_released t e.1.cell ≡ false)
-      parts = both (is_locked t e.1.cell) (is_released t e.1.cell) unknown
+      -- which is known besides
+      pub passed-known : is_known t e.1.cell ≡ true → with_bulk all rest t ≡ with_bulk all bulk t
+      passed-known known = same_table _ _ refl (λ c. gone-seen rest t c ∙ by_cell c (same_cell c e.1.cell) refl ∙ ap (λ b. is_released t c || (not (is_locked t c) && b)) (sym (left_first c)) ∙ sym (gone-seen bulk t c)) refl refl
         where
-          both : (a b : Bool) → (a || b) ≡ false → (a ≡ false) × (b ≡ false)
-          both true b h = absurd (false≢true (sym h))
-          both false b h = (refl, h)
+          bits : (l g x : Bool) → (l || g) ≡ true → (g || (not l && x)) ≡ (g || (not l && true))
+          bits true g x h = refl
+          bits false true x h = refl
+          bits false false x h = absurd (false≢true h)
 
-      pub told-was : is_released (with_bulk bulk t) e.1.cell ≡ true
-      told-was =
-          gone-seen bulk t e.1.cell ∙ (λ i. parts.1 i || (not (parts.0 i) && left_first e.1.cell i))
-          ∙ ap (λ b. b || is_left rest e.1.cell) (same_itself e.1.cell)
-
-      not_later : is_left rest e.1.cell ≡ false
-      not_later = by_lock (has_lock_among e.1.holders) locked (subst (λ g. AreSingle (left_in g)) first single)
-        where
-          by_lock : (b : Bool) → b ≡ true → AreSingle (cond b (e.1.cell ∷ left_in rest) (left_in rest)) → is_left rest e.1.cell ≡ false
-          by_lock true is both = both.0
-          by_lock false is both = absurd (false≢true is)
-
-      pub told-taken : IsTaken (with_bulk bulk t) (with_bulk rest t) e.1.cell
-      told-taken = same_table (with_bulk rest t) (record (with_bulk bulk t) { released_cells = set.remove (with_bulk bulk t).released_cells e.1.cell }) refl (λ c.
-          gone-seen rest t c ∙ by_cell c (same_cell c e.1.cell) refl
-          ∙ ap (λ b. not (same_cell c e.1.cell) && b) (ap (λ b. is_released t c || (not (is_locked t c) && b)) (sym (left_first c)) ∙ sym (gone-seen bulk t c))
-          ∙ sym (set.contains-remove cell_cmp_total (with_bulk bulk t).released_cells e.1.cell c)) refl
-        where
-          by_cell : (c : Cell) (b : Bool) → same_cell c e.1.cell ≡ b
-              → (is_released t c || (not (is_locked t c) && is_left rest c)) ≡ (not (same_cell c e.1.cell) && (is_released t c || (not (is_locked t c) && (same_cell c e.1.cell || is_left rest c))))
+          by_cell : (c : Cell) (b : Bool) → same_cell c e.1.cell ≡ b → (is_released t c || (not (is_locked t c) && is_left all rest c)) ≡ (is_released t c || (not (is_locked t c) && (same_cell c e.1.cell || is_left all rest c)))
           by_cell c true is =
-              let one = same_cell-is c e.1.cell is in
-              (λ i. (ap (is_released t) one ∙ parts.1) i || (not ((ap (is_locked t) one ∙ parts.0) i) && (ap (is_left rest) one ∙ not_later) i))
-              ∙ sym (ap (λ b. not b && (is_released t c || (not (is_locked t c) && (b || is_left rest c)))) is)
-          by_cell c false is = sym (ap (λ b. not b && (is_released t c || (not (is_locked t c) && (b || is_left rest c)))) is)
+              bits (is_locked t c) (is_released t c) (is_left all rest c) (ap (is_known t) (same_cell-is c e.1.cell is) ∙ known)
+              ∙ ap (λ b. is_released t c || (not (is_locked t c) && (b || is_left all rest c))) (sym is)
+          by_cell c false is = ap (λ b. is_released t c || (not (is_locked t c) && (b || is_left all rest c))) (sym is)
 
-  -- which is not to be told
-  pub passed-over : (has_lock_among e.1.holders && not (is_known t e.1.cell)) ≡ false → with_bulk rest t ≡ with_bulk bulk t
-  passed-over not_told = by_test (has_lock_among e.1.holders)
-      (λ locked. passed-known locked (known_else (has_lock_among e.1.holders) (is_known t e.1.cell) locked not_told))
-      (λ none. ap (λ cells. record t { released_cells = set.union t.released_cells (set.from_list (filter (λ c. not (is_locked t c)) cells)) }) (sym (passed-unlocked none)))
-    where
-      known_else : (a b : Bool) → a ≡ true → (a && not b) ≡ false → b ≡ true
-      known_else true true is h = refl
-      known_else true false is h = absurd (false≢true (sym h))
-      known_else false b is h = absurd (false≢true is)
+      -- which is not known besides
+      module _ (unknown : is_known t e.1.cell ≡ false) (single : AreSingle (left_in all bulk)) where
+        parts : (is_locked t e.1.cell ≡ false) × (is_released t e.1.cell ≡ false)
+        parts = both (is_locked t e.1.cell) (is_released t e.1.cell) unknown
+          where
+            both : (a b : Bool) → (a || b) ≡ false → (a ≡ false) × (b ≡ false)
+            both true b h = absurd (false≢true (sym h))
+            both false b h = (refl, h)
 
-  pub told-both : (has_lock_among e.1.holders && not (is_known t e.1.cell)) ≡ true → (has_lock_among e.1.holders ≡ true) × (is_known t e.1.cell ≡ false)
-  told-both told = parts_of (has_lock_among e.1.holders) (is_known t e.1.cell) told
-    where
-      parts_of : (a b : Bool) → (a && not b) ≡ true → (a ≡ true) × (b ≡ false)
-      parts_of true false h = (refl, refl)
-      parts_of true true h = absurd (false≢true h)
-      parts_of false b h = absurd (false≢true h)
+        pub told-was : is_released (with_bulk all bulk t) e.1.cell ≡ true
+        told-was =
+            gone-seen bulk t e.1.cell ∙ (λ i. parts.1 i || (not (parts.0 i) && left_first e.1.cell i))
+            ∙ ap (λ b. b || is_left all rest e.1.cell) (same_itself e.1.cell)
+
+        not_later : is_left all rest e.1.cell ≡ false
+        not_later = by_lock (has_keeper all e.1) locked (subst (λ g. AreSingle (left_in all g)) first single)
+          where
+            by_lock : (b : Bool) → b ≡ true → AreSingle (cond b (e.1.cell ∷ left_in all rest) (left_in all rest)) → is_left all rest e.1.cell ≡ false
+            by_lock true is both = both.0
+            by_lock false is both = absurd (false≢true is)
+
+        pub told-taken : IsTaken (with_bulk all bulk t) (with_bulk all rest t) e.1.cell
+        told-taken = same_table (with_bulk all rest t) (record (with_bulk all bulk t) { released_cells = set.remove (with_bulk all bulk t).released_cells e.1.cell }) refl (λ c.
+            gone-seen rest t c ∙ by_cell c (same_cell c e.1.cell) refl
+            ∙ ap (λ b. not (same_cell c e.1.cell) && b) (ap (λ b. is_released t c || (not (is_locked t c) && b)) (sym (left_first c)) ∙ sym (gone-seen bulk t c))
+            ∙ sym (set.contains-remove cell_cmp_total (with_bulk all bulk t).released_cells e.1.cell c)) refl refl
+          where
+            by_cell : (c : Cell) (b : Bool) → same_cell c e.1.cell ≡ b
+                → (is_released t c || (not (is_locked t c) && is_left all rest c)) ≡ (not (same_cell c e.1.cell) && (is_released t c || (not (is_locked t c) && (same_cell c e.1.cell || is_left all rest c))))
+            by_cell c true is =
+                let one = same_cell-is c e.1.cell is in
+                (λ i. (ap (is_released t) one ∙ parts.1) i || (not ((ap (is_locked t) one ∙ parts.0) i) && (ap (is_left all rest) one ∙ not_later) i))
+                ∙ sym (ap (λ b. not b && (is_released t c || (not (is_locked t c) && (b || is_left all rest c)))) is)
+            by_cell c false is = sym (ap (λ b. not b && (is_released t c || (not (is_locked t c) && (b || is_left all rest c)))) is)
+
+    -- which is not to be told
+    pub passed-over : (has_keeper all e.1 && not (is_known t e.1.cell)) ≡ false → with_bulk all rest t ≡ with_bulk all bulk t
+    passed-over not_told = by_test (has_keeper all e.1)
+        (λ locked. passed-known locked (known_else (has_keeper all e.1) (is_known t e.1.cell) locked not_told))
+        (λ none. ap (λ cells. record t { released_cells = set.union t.released_cells (set.from_list (filter (λ c. not (is_locked t c)) cells)) }) (sym (passed-unlocked none)))
+      where
+        known_else : (a b : Bool) → a ≡ true → (a && not b) ≡ false → b ≡ true
+        known_else true true is h = refl
+        known_else true false is h = absurd (false≢true (sym h))
+        known_else false b is h = absurd (false≢true is)
+
+    pub told-both : (has_keeper all e.1 && not (is_known t e.1.cell)) ≡ true → (has_keeper all e.1 ≡ true) × (is_known t e.1.cell ≡ false)
+    told-both told = parts_of (has_keeper all e.1) (is_known t e.1.cell) told
+      where
+        parts_of : (a b : Bool) → (a && not b) ≡ true → (a ≡ true) × (b ≡ false)
+        parts_of true false h = (refl, refl)
+        parts_of true true h = absurd (false≢true h)
+        parts_of false b h = absurd (false≢true h)
 
 -- whether a cell is known, by what is found there
 pub known-found : (m : Cells) (lists : Lists Cell) (c : Cell) (locked listed : Bool) → locked ≡ is_locked (table_of m lists) c → listed ≡ has_place m c released_owner → (locked || listed) ≡ is_known (table_of m lists) c
@@ -264,29 +266,9 @@ known-found m lists c locked listed locked_is listed_is =
 pub known-locked : (t : LockTable) (c : Cell) (locked : Bool) → locked ≡ is_locked t c → locked ≡ true → locked ≡ is_known t c
 known-locked t c locked is true_is = true_is ∙ sym (or_left (is_locked t c) (is_released t c) (sym is ∙ true_is))
 
--- Whether somebody among the owners of a cell has a lock, as a look at them tells.
-module _ (cell : Cell) (owners : Owners) where
-  abbrev no_cells_yet : Cells
-  no_cells_yet = finite.empty
-
-  abbrev only : Cells
-  only = finite.insert no_cells_yet cell owners
-
-  here : finite.get only cell ≡ Some owners
-  here = finite.get-insert cell_cmp_total no_cells_yet cell owners cell ∙ ap (λ b. cond b (Some owners) (finite.get no_cells_yet cell)) (same_itself cell)
-
-  their : (u : ℕ) → marks_at only cell u ≡ finite.get owners u
-  their u = ap (λ o. finite.get (unwrap_or o finite.empty) u) here
-
-  among : is_marked_at only cell ≡ has_lock_among owners
-  among = ap (λ o. has_lock_among (unwrap_or o finite.empty)) here
-
-  pub lock_found : (b : Bool) → (b ≡ true → (u : ℕ) × (is_marked_of (finite.get owners u) ≡ true)) → (b ≡ false → (u : ℕ) → is_marked_of (finite.get owners u) ≡ false) → b ≡ has_lock_among owners
-  lock_found b some none =
-      same_truth b (is_marked_at only cell)
-      (λ is. let one = some is in marked_by only cell one.0 (ap is_marked_of (their one.0) ∙ one.1))
-      (λ is. let one = marked_one only cell is in by_test b (λ e. e) (λ e. absurd (false≢true (sym (none e one.0) ∙ sym (ap is_marked_of (their one.0)) ∙ one.1))))
-      ∙ among
+pub untrue : (b : Bool) → not b ≡ false → b ≡ true
+untrue true e = refl
+untrue false e = sym e
 
 pub told_if : (a b : Bool) → a ≡ true → not b ≡ (a && not b)
 told_if true b is = refl
@@ -296,129 +278,135 @@ pub told_unless : (a b : Bool) → a ≡ false → false ≡ (a && not b)
 told_unless true b is = absurd (false≢true (sym is))
 told_unless false b is = refl
 
--- What is given up is what stands in the slab.
+module _ (all : Bool) where
+  -- What is given up is what stands in the slab.
 
-left-any : (c : Cell) (bulk : List (ℕ × Locked)) → is_left bulk c ≡ list_any (λ e. has_lock_among e.1.holders && same_cell c e.1.cell) bulk
-left-any c [] = refl
-left-any c (e ∷ bulk) = by_lock (has_lock_among e.1.holders) (left-any c bulk)
-  where
-    by_lock : (b : Bool) → is_left bulk c ≡ list_any (λ x. has_lock_among x.1.holders && same_cell c x.1.cell) bulk
-        → list_any (same_cell c) (cond b (e.1.cell ∷ left_in bulk) (left_in bulk)) ≡ ((b && same_cell c e.1.cell) || list_any (λ x. has_lock_among x.1.holders && same_cell c x.1.cell) bulk)
-    by_lock true later = ap (λ b. same_cell c e.1.cell || b) later
-    by_lock false later = later
-
-module _ (s : Slab Locked) (keyed : AreKeyed (at_of s) (keys_in (at_of s))) where
-  abbrev passes : Cell → Locked → Bool
-  passes c l = has_lock_among l.holders && same_cell c l.cell
-
-  abbrev table : Cells
-  table = cells_of s (keys_in (at_of s))
-
-  found_there : (c : Cell) (k : ℕ) (l : Locked) → get s k ≡ Some l → c ≡ l.cell → is_marked_at table c ≡ has_lock_among l.holders
-  found_there c k l there is =
-      ap (λ o. has_lock_among (unwrap_or o finite.empty))
-      (cells-there s (keys_in (at_of s)) c k (Some l) ((keyed c k).1 (at-there s k l there ∙ ap Some (sym is))) there)
-
-  marked_if_left : (c : Cell) → list_any (λ e. passes c e.1) (entries s) ≡ true → is_marked_at table c ≡ true
-  marked_if_left c any =
-      let one = there_any (passes c) s.slots 0 any in
-      let both = and_parts (has_lock_among one.1.holders) (same_cell c one.1.cell) one.3 in
-      found_there c one.0 one.1 one.2 (same_cell-is c one.1.cell both.1) ∙ both.0
-
-  left_if_marked : (c : Cell) → is_marked_at table c ≡ true → list_any (λ e. passes c e.1) (entries s) ≡ true
-  left_if_marked c marked = by_key (key_in (keys_in (at_of s)) c) refl
+  left-any : (c : Cell) (bulk : List (ℕ × Locked)) → is_left all bulk c ≡ list_any (λ e. has_keeper all e.1 && same_cell c e.1.cell) bulk
+  left-any c [] = refl
+  left-any c (e ∷ bulk) = by_lock (has_keeper all e.1) (left-any c bulk)
     where
-      by_slot : (k : ℕ) → finite.get (at_of s) k ≡ Some c → (o : Option Locked) → get s k ≡ o → list_any (λ e. passes c e.1) (entries s) ≡ true
-      by_slot k in_slot None e = absurd (false≢true (ap is_some (sym (at-none s k e) ∙ in_slot)))
-      by_slot k in_slot (Some l) e =
-          let is : l.cell ≡ c = the_one l.cell c (sym (at-there s k l e) ∙ in_slot) in
-          any_there (passes c) s.slots 0 k l e
-          (and_from (has_lock_among l.holders) (same_cell c l.cell) (sym (found_there c k l e (sym is)) ∙ marked) (ap (same_cell c) is ∙ same_itself c))
-
-      by_key : (o : Option ℕ) → key_in (keys_in (at_of s)) c ≡ o → list_any (λ e. passes c e.1) (entries s) ≡ true
-      by_key None e =
-          let one = marked_one table c marked in
-          let none : finite.get table c ≡ None = get-cells s (keys_in (at_of s)) c ∙ ap (option_map (λ k. owners_of (get s k))) e in
-          absurd (false≢true (sym (ap is_marked_of (finite.get-empty nat_cmp one.0)) ∙ sym (ap (λ o. is_marked_of (finite.get (unwrap_or o finite.empty) one.0)) none) ∙ one.1))
-      by_key (Some k) e = by_slot k ((keyed c k).0 e) (get s k) refl
-
-  -- the cells that are left are those on which somebody has a lock
-  pub given-left : (c : Cell) → is_left (entries s) c ≡ is_marked_at table c
-  given-left c = left-any c (entries s) ∙ same_truth _ _ (marked_if_left c) (left_if_marked c)
-
-  one_key : (j k : ℕ) (l m : Locked) → get s j ≡ Some l → get s k ≡ Some m → same_cell l.cell m.cell ≡ true → j ≡ k
-  one_key j k l m here there same =
-      the_one j k (sym ((keyed l.cell j).1 (at-there s j l here)) ∙ (keyed l.cell k).1 (at-there s k m there ∙ ap Some (sym (same_cell-is l.cell m.cell same))))
-
-  shifted : (slots : List (Option Locked)) (o : Option Locked) (n : ℕ) → ((i : ℕ) → get_or (o ∷ slots) i None ≡ get s (n + i)) → (i : ℕ) → get_or slots i None ≡ get s (n + 1 + i)
-  shifted slots o n from i = let shift : n + suc i ≡ n + 1 + i = omega arith in from (suc i) ∙ ap (get s) shift
-
-  in_slot : (slots : List (Option Locked)) (l : Locked) (n : ℕ) → ((i : ℕ) → get_or (Some l ∷ slots) i None ≡ get s (n + i)) → get s n ≡ Some l
-  in_slot slots l n from = let same : n ≡ n + 0 = omega arith in ap (get s) same ∙ sym (from 0)
-
-  -- a cell does not stand behind its own key again
-  elsewhere : (slots : List (Option Locked)) (n j : ℕ) (l : Locked) → j < n → get s j ≡ Some l → ((i : ℕ) → get_or slots i None ≡ get s (n + i)) → list_any (same_cell l.cell) (left_in (entries_from n slots)) ≡ false
-  elsewhere [] n j l lt there from = refl
-  elsewhere (None ∷ slots) n j l lt there from = elsewhere slots (n + 1) j l (omega (arith, lt)) there (shifted slots None n from)
-  elsewhere (Some m ∷ slots) n j l lt there from = by_lock (has_lock_among m.holders) (elsewhere slots (n + 1) j l (omega (arith, lt)) there (shifted slots (Some m) n from))
-    where
-      other : same_cell l.cell m.cell ≡ false
-      other = by_test (same_cell l.cell m.cell) (λ e. absurd (omega (arith, lt, one_key j n l m there (in_slot slots m n from) e))) (λ e. e)
-
-      by_lock : (b : Bool) → list_any (same_cell l.cell) (left_in (entries_from (n + 1) slots)) ≡ false
-          → list_any (same_cell l.cell) (cond b (m.cell ∷ left_in (entries_from (n + 1) slots)) (left_in (entries_from (n + 1) slots))) ≡ false
-      by_lock true later = (λ i. other i || later i)
+      by_lock : (b : Bool) → is_left all bulk c ≡ list_any (λ x. has_keeper all x.1 && same_cell c x.1.cell) bulk
+          → list_any (same_cell c) (cond b (e.1.cell ∷ left_in all bulk) (left_in all bulk)) ≡ ((b && same_cell c e.1.cell) || list_any (λ x. has_keeper all x.1 && same_cell c x.1.cell) bulk)
+      by_lock true later = ap (λ b. same_cell c e.1.cell || b) later
       by_lock false later = later
 
-  singly : (slots : List (Option Locked)) (n : ℕ) → ((i : ℕ) → get_or slots i None ≡ get s (n + i)) → AreSingle (left_in (entries_from n slots))
-  singly [] n from = tt
-  singly (None ∷ slots) n from = singly slots (n + 1) (shifted slots None n from)
-  singly (Some l ∷ slots) n from =
-      by_lock (has_lock_among l.holders) (elsewhere slots (n + 1) n l (omega arith) (in_slot slots l n from) (shifted slots (Some l) n from)) (singly slots (n + 1) (shifted slots (Some l) n from))
-    where
-      by_lock : (b : Bool) → list_any (same_cell l.cell) (left_in (entries_from (n + 1) slots)) ≡ false → AreSingle (left_in (entries_from (n + 1) slots))
-          → AreSingle (cond b (l.cell ∷ left_in (entries_from (n + 1) slots)) (left_in (entries_from (n + 1) slots)))
-      by_lock true apart more = (apart, more)
-      by_lock false apart more = more
+  module _ (s : Slab Locked) (keyed : AreKeyed (at_of s) (keys_in (at_of s))) where
+    abbrev passes : Cell → Locked → Bool
+    passes c l = has_keeper all l && same_cell c l.cell
 
-  -- and none of them is left twice
-  pub given-single : AreSingle (left_in (entries s))
-  given-single = singly s.slots 0 (λ i. let same : i ≡ 0 + i = omega arith in ap (get s) same)
+    abbrev nobody : Owners
+    nobody = finite.empty
 
-  -- Where each owner in_slot alone on its cell, nobody else has a place.
-  module _ (owner : ℕ) (last : (k : ℕ) (l : Locked) → get s k ≡ Some l → IsAllOf owner l.holders) where
-    pub nobody-else : (c : Cell) (u : ℕ) → (u == owner) ≡ false → marks_at table c u ≡ None
-    nobody-else c u apart = by_key (key_in (keys_in (at_of s)) c) refl
+    abbrev table : Cells
+    table = cells_of s (keys_in (at_of s))
+
+    found_there : (c : Cell) (k : ℕ) (l : Locked) → get s k ≡ Some l → c ≡ l.cell → is_kept_at all table c ≡ has_keeper all l
+    found_there c k l there is =
+        ap (λ o. is_kept_among all c (unwrap_or o finite.empty))
+        (cells-there s (keys_in (at_of s)) c k (Some l) ((keyed c k).1 (at-there s k l there ∙ ap Some (sym is))) there)
+        ∙ ap (λ d. is_kept_among all d l.holders) is
+
+    marked_if_left : (c : Cell) → list_any (λ e. passes c e.1) (entries s) ≡ true → is_kept_at all table c ≡ true
+    marked_if_left c any =
+        let one = there_any (passes c) s.slots 0 any in
+        let both = and_parts (has_keeper all one.1) (same_cell c one.1.cell) one.3 in
+        found_there c one.0 one.1 one.2 (same_cell-is c one.1.cell both.1) ∙ both.0
+
+    left_if_marked : (c : Cell) → is_kept_at all table c ≡ true → list_any (λ e. passes c e.1) (entries s) ≡ true
+    left_if_marked c marked = by_key (key_in (keys_in (at_of s)) c) refl
       where
-        by_slot : (k : ℕ) (o : Option Locked) → get s k ≡ o → finite.get (owners_of o) u ≡ None
-        by_slot k None e = finite.get-empty nat_cmp u
-        by_slot k (Some l) e =
-            sym (finite.get-remove nat_cmp_total l.holders owner u ∙ ap (λ b. cond b None (finite.get l.holders u)) (unsigned_tied u owner ∙ apart)) ∙ last k l e u
+        by_slot : (k : ℕ) → finite.get (at_of s) k ≡ Some c → (o : Option Locked) → get s k ≡ o → list_any (λ e. passes c e.1) (entries s) ≡ true
+        by_slot k in_slot None e = absurd (false≢true (ap is_some (sym (at-none s k e) ∙ in_slot)))
+        by_slot k in_slot (Some l) e =
+            let is : l.cell ≡ c = the_one l.cell c (sym (at-there s k l e) ∙ in_slot) in
+            any_there (passes c) s.slots 0 k l e
+            (and_from (has_keeper all l) (same_cell c l.cell) (sym (found_there c k l e (sym is)) ∙ marked) (ap (same_cell c) is ∙ same_itself c))
 
-        by_key : (o : Option ℕ) → key_in (keys_in (at_of s)) c ≡ o → marks_at table c u ≡ None
+        by_key : (o : Option ℕ) → key_in (keys_in (at_of s)) c ≡ o → list_any (λ e. passes c e.1) (entries s) ≡ true
         by_key None e =
-            ap (λ o. finite.get (unwrap_or o finite.empty) u) (get-cells s (keys_in (at_of s)) c ∙ ap (option_map (λ k. owners_of (get s k))) e)
-            ∙ finite.get-empty nat_cmp u
-        by_key (Some k) e =
-            ap (λ o. finite.get (unwrap_or o finite.empty) u) (get-cells s (keys_in (at_of s)) c ∙ ap (option_map (λ k. owners_of (get s k))) e)
-            ∙ by_slot k (get s k) refl
+            let none : finite.get table c ≡ None = get-cells s (keys_in (at_of s)) c ∙ ap (option_map (λ k. owners_of (get s k))) e in
+            let one = among-one (keeps_of all c) (keeps-none all c) nobody (sym (ap (λ o. is_kept_among all c (unwrap_or o finite.empty)) none) ∙ marked) in
+            absurd (false≢true (sym (keeps-none all c) ∙ sym (ap (keeps_of all c) (finite.get-empty nat_cmp one.0)) ∙ one.1))
+        by_key (Some k) e = by_slot k ((keyed c k).0 e) (get s k) refl
 
--- What is let go one by one.
-module _ (held back next : Held) (bulk : List (ℕ × Locked)) (owner : ℕ) (apart : owner ≡ 0 → ⊥) (kept : IsKept held.cells held.lists) (same : back ≡ held)
-    (after : (c : Cell) (u : ℕ) → marks_at next.cells c u ≡ after_hand owner released_owner (marks_at back.cells c) u) (still : AreOpenStill back.lists next.lists) where
-  after_held : (c : Cell) (u : ℕ) → marks_at next.cells c u ≡ after_hand owner released_owner (marks_at held.cells c) u
-  after_held c u = after c u ∙ ap (λ (h : Held). after_hand owner released_owner (marks_at h.cells c) u) same
+    -- the cells that are left are those that a lock keeps
+    pub given-left : (c : Cell) → is_left all (entries s) c ≡ is_kept_at all table c
+    given-left c = left-any c (entries s) ∙ same_truth _ _ (marked_if_left c) (left_if_marked c)
 
-  still_held : AreOpenStill held.lists next.lists
-  still_held u = still u ∙ ap (λ (h : Held). is_some (finite.get h.lists u)) same
+    one_key : (j k : ℕ) (l m : Locked) → get s j ≡ Some l → get s k ≡ Some m → same_cell l.cell m.cell ≡ true → j ≡ k
+    one_key j k l m here there same =
+        the_one j k (sym ((keyed l.cell j).1 (at-there s j l here)) ∙ (keyed l.cell k).1 (at-there s k m there ∙ ap Some (sym (same_cell-is l.cell m.cell same))))
 
-  pub listed-kept : IsKept next.cells (finite.remove next.lists owner)
-  listed-kept = released_kept held.cells next.cells owner (apart_test owner released_owner apart) after_held held.lists next.lists kept still_held
+    shifted : (slots : List (Option Locked)) (o : Option Locked) (n : ℕ) → ((i : ℕ) → get_or (o ∷ slots) i None ≡ get s (n + i)) → (i : ℕ) → get_or slots i None ≡ get s (n + 1 + i)
+    shifted slots o n from i = let shift : n + suc i ≡ n + 1 + i = omega arith in from (suc i) ∙ ap (get s) shift
 
-  pub listed-released : AreReleased (with_bulk bulk (table_of held.cells held.lists)) (with_bulk bulk (table_of next.cells (finite.remove next.lists owner))) owner
-  listed-released =
-      released-gone bulk (table_of held.cells held.lists) (table_of next.cells (finite.remove next.lists owner)) owner
-      (released held.cells next.cells owner (apart_test owner released_owner apart) after_held held.lists next.lists kept still_held)
+    in_slot : (slots : List (Option Locked)) (l : Locked) (n : ℕ) → ((i : ℕ) → get_or (Some l ∷ slots) i None ≡ get s (n + i)) → get s n ≡ Some l
+    in_slot slots l n from = let same : n ≡ n + 0 = omega arith in ap (get s) same ∙ sym (from 0)
+
+    -- a cell does not stand behind its own key again
+    elsewhere : (slots : List (Option Locked)) (n j : ℕ) (l : Locked) → j < n → get s j ≡ Some l → ((i : ℕ) → get_or slots i None ≡ get s (n + i)) → list_any (same_cell l.cell) (left_in all (entries_from n slots)) ≡ false
+    elsewhere [] n j l lt there from = refl
+    elsewhere (None ∷ slots) n j l lt there from = elsewhere slots (n + 1) j l (omega (arith, lt)) there (shifted slots None n from)
+    elsewhere (Some m ∷ slots) n j l lt there from = by_lock (has_keeper all m) (elsewhere slots (n + 1) j l (omega (arith, lt)) there (shifted slots (Some m) n from))
+      where
+        other : same_cell l.cell m.cell ≡ false
+        other = by_test (same_cell l.cell m.cell) (λ e. absurd (omega (arith, lt, one_key j n l m there (in_slot slots m n from) e))) (λ e. e)
+
+        by_lock : (b : Bool) → list_any (same_cell l.cell) (left_in all (entries_from (n + 1) slots)) ≡ false
+            → list_any (same_cell l.cell) (cond b (m.cell ∷ left_in all (entries_from (n + 1) slots)) (left_in all (entries_from (n + 1) slots))) ≡ false
+        by_lock true later = (λ i. other i || later i)
+        by_lock false later = later
+
+    singly : (slots : List (Option Locked)) (n : ℕ) → ((i : ℕ) → get_or slots i None ≡ get s (n + i)) → AreSingle (left_in all (entries_from n slots))
+    singly [] n from = tt
+    singly (None ∷ slots) n from = singly slots (n + 1) (shifted slots None n from)
+    singly (Some l ∷ slots) n from =
+        by_lock (has_keeper all l) (elsewhere slots (n + 1) n l (omega arith) (in_slot slots l n from) (shifted slots (Some l) n from)) (singly slots (n + 1) (shifted slots (Some l) n from))
+      where
+        by_lock : (b : Bool) → list_any (same_cell l.cell) (left_in all (entries_from (n + 1) slots)) ≡ false → AreSingle (left_in all (entries_from (n + 1) slots))
+            → AreSingle (cond b (l.cell ∷ left_in all (entries_from (n + 1) slots)) (left_in all (entries_from (n + 1) slots)))
+        by_lock true apart more = (apart, more)
+        by_lock false apart more = more
+
+    -- and none of them is left twice
+    pub given-single : AreSingle (left_in all (entries s))
+    given-single = singly s.slots 0 (λ i. let same : i ≡ 0 + i = omega arith in ap (get s) same)
+
+    -- Where each owner in_slot alone on its cell, nobody else has a place.
+    module _ (owner : ℕ) (last : (k : ℕ) (l : Locked) → get s k ≡ Some l → IsAllOf owner l.holders) where
+      pub nobody-else : (c : Cell) (u : ℕ) → (u == owner) ≡ false → marks_at table c u ≡ None
+      nobody-else c u apart = by_key (key_in (keys_in (at_of s)) c) refl
+        where
+          by_slot : (k : ℕ) (o : Option Locked) → get s k ≡ o → finite.get (owners_of o) u ≡ None
+          by_slot k None e = finite.get-empty nat_cmp u
+          by_slot k (Some l) e =
+              sym (finite.get-remove nat_cmp_total l.holders owner u ∙ ap (λ b. cond b None (finite.get l.holders u)) (unsigned_tied u owner ∙ apart)) ∙ last k l e u
+
+          by_key : (o : Option ℕ) → key_in (keys_in (at_of s)) c ≡ o → marks_at table c u ≡ None
+          by_key None e =
+              ap (λ o. finite.get (unwrap_or o finite.empty) u) (get-cells s (keys_in (at_of s)) c ∙ ap (option_map (λ k. owners_of (get s k))) e)
+              ∙ finite.get-empty nat_cmp u
+          by_key (Some k) e =
+              ap (λ o. finite.get (unwrap_or o finite.empty) u) (get-cells s (keys_in (at_of s)) c ∙ ap (option_map (λ k. owners_of (get s k))) e)
+              ∙ by_slot k (get s k) refl
+
+module _ (all : Bool) where
+  -- What is let go one by one.
+  module _ (held back next : Held) (bulk : List (ℕ × Locked)) (owner : ℕ) (apart : owner ≡ 0 → ⊥) (kept : IsKept held.cells held.lists) (same : back ≡ held)
+      (after : (c : Cell) (u : ℕ) → marks_at next.cells c u ≡ after_hand owner released_owner (marks_at back.cells c) u) (still : AreOpenStill back.lists next.lists) where
+    after_held : (c : Cell) (u : ℕ) → marks_at next.cells c u ≡ after_hand owner released_owner (marks_at held.cells c) u
+    after_held c u = after c u ∙ ap (λ (h : Held). after_hand owner released_owner (marks_at h.cells c) u) same
+
+    still_held : AreOpenStill held.lists next.lists
+    still_held u = still u ∙ ap (λ (h : Held). is_some (finite.get h.lists u)) same
+
+    pub listed-kept : IsKept next.cells (finite.remove next.lists owner)
+    listed-kept = released_kept held.cells next.cells owner (apart_test owner released_owner apart) after_held held.lists next.lists kept still_held
+
+    pub listed-released : AreFreed true (with_bulk all bulk (table_of held.cells held.lists)) (with_bulk all bulk (table_of next.cells (finite.remove next.lists owner))) owner
+    listed-released =
+        released-gone all bulk (table_of held.cells held.lists) (table_of next.cells (finite.remove next.lists owner)) owner
+        (released held.cells next.cells owner (apart_test owner released_owner apart) after_held held.lists next.lists kept still_held)
 
 pub no_length : {A : Type 0} (l : List A) → length l ≡ 0 → l ≡ []
 no_length [] none = refl
@@ -476,39 +464,40 @@ left_nothing s n end within over = entries_same (drop n s.slots) [] n (λ i. got
 pub in_front_of : (m : ℕ) (o : Option Locked) (l : Locked) (es : List (ℕ × Locked)) → o ≡ Some l → in_front m o es ≡ (m, l) ∷ es
 in_front_of m o l es is = ap (λ x. in_front m x es) is
 
--- one of them is passed that is not to be told
-pub step-over : (s s' : Slab Locked) (n n' : ℕ) (t : LockTable) → n' ≡ n + 1 → ((k : ℕ) → (k == n) ≡ false → get s' k ≡ get s k)
-    → ((l : Locked) → get s n ≡ Some l → (has_lock_among l.holders && not (is_known t l.cell)) ≡ false) → AreSingle (left_in (left_from n s))
-    → AreSingle (left_in (left_from n' s')) × (with_bulk (left_from n' s') t ≡ with_bulk (left_from n s) t)
-step-over s s' n n' t is others passed single = by_slot (get s n) refl
-  where
-    by_slot : (o : Option Locked) → get s n ≡ o → AreSingle (left_in (left_from n' s')) × (with_bulk (left_from n' s') t ≡ with_bulk (left_from n s) t)
-    by_slot None e =
-        let same : left_from n s ≡ left_from n' s' = left_step s s' n n' is others ∙ ap (λ o. in_front n o (left_from n' s')) e in
-        (subst (λ g. AreSingle (left_in g)) same single, ap (λ g. with_bulk g t) (sym same))
-    by_slot (Some l) e =
-        let first : left_from n s ≡ (n, l) ∷ left_from n' s' = left_step s s' n n' is others ∙ in_front_of n (get s n) l (left_from n' s') e in
-        (passed-single (left_from n s) (left_from n' s') (n, l) first t single, passed-over (left_from n s) (left_from n' s') (n, l) first t (passed l e))
+module _ (all : Bool) where
+  -- one of them is passed that is not to be told
+  pub step-over : (s s' : Slab Locked) (n n' : ℕ) (t : LockTable) → n' ≡ n + 1 → ((k : ℕ) → (k == n) ≡ false → get s' k ≡ get s k)
+      → ((l : Locked) → get s n ≡ Some l → (has_keeper all l && not (is_known t l.cell)) ≡ false) → AreSingle (left_in all (left_from n s))
+      → AreSingle (left_in all (left_from n' s')) × (with_bulk all (left_from n' s') t ≡ with_bulk all (left_from n s) t)
+  step-over s s' n n' t is others passed single = by_slot (get s n) refl
+    where
+      by_slot : (o : Option Locked) → get s n ≡ o → AreSingle (left_in all (left_from n' s')) × (with_bulk all (left_from n' s') t ≡ with_bulk all (left_from n s) t)
+      by_slot None e =
+          let same : left_from n s ≡ left_from n' s' = left_step s s' n n' is others ∙ ap (λ o. in_front n o (left_from n' s')) e in
+          (subst (λ g. AreSingle (left_in all g)) same single, ap (λ g. with_bulk all g t) (sym same))
+      by_slot (Some l) e =
+          let first : left_from n s ≡ (n, l) ∷ left_from n' s' = left_step s s' n n' is others ∙ in_front_of n (get s n) l (left_from n' s') e in
+          (passed-single all (left_from n s) (left_from n' s') (n, l) first t single, passed-over all (left_from n s) (left_from n' s') (n, l) first t (passed l e))
 
-pub step-single : (s s' : Slab Locked) (n n' : ℕ) → n' ≡ n + 1 → ((k : ℕ) → (k == n) ≡ false → get s' k ≡ get s k) → AreSingle (left_in (left_from n s)) → AreSingle (left_in (left_from n' s'))
-step-single s s' n n' is others single = by_slot (get s n) refl
-  where
-    by_slot : (o : Option Locked) → get s n ≡ o → AreSingle (left_in (left_from n' s'))
-    by_slot None e = subst (λ g. AreSingle (left_in g)) (left_step s s' n n' is others ∙ ap (λ o. in_front n o (left_from n' s')) e) single
-    by_slot (Some l) e =
-        passed-single (left_from n s) (left_from n' s') (n, l) (left_step s s' n n' is others ∙ in_front_of n (get s n) l (left_from n' s') e) no_locks single
+  pub step-single : (s s' : Slab Locked) (n n' : ℕ) → n' ≡ n + 1 → ((k : ℕ) → (k == n) ≡ false → get s' k ≡ get s k) → AreSingle (left_in all (left_from n s)) → AreSingle (left_in all (left_from n' s'))
+  step-single s s' n n' is others single = by_slot (get s n) refl
+    where
+      by_slot : (o : Option Locked) → get s n ≡ o → AreSingle (left_in all (left_from n' s'))
+      by_slot None e = subst (λ g. AreSingle (left_in all g)) (left_step s s' n n' is others ∙ ap (λ o. in_front n o (left_from n' s')) e) single
+      by_slot (Some l) e =
+          passed-single all (left_from n s) (left_from n' s') (n, l) (left_step s s' n n' is others ∙ in_front_of n (get s n) l (left_from n' s') e) no_locks single
 
--- and one that is
-pub step-told : (s s' : Slab Locked) (n n' : ℕ) (t : LockTable) → n' ≡ n + 1 → ((k : ℕ) → (k == n) ≡ false → get s' k ≡ get s k) → (cell : Cell)
-    → ((l : Locked) × (get s n ≡ Some l) × (l.cell ≡ cell) × ((has_lock_among l.holders && not (is_known t l.cell)) ≡ true)) → AreSingle (left_in (left_from n s))
-    → AreSingle (left_in (left_from n' s')) × (is_released (with_bulk (left_from n s) t) cell ≡ true) × IsTaken (with_bulk (left_from n s) t) (with_bulk (left_from n' s') t) cell
-step-told s s' n n' t is others cell one single =
-    let first : left_from n s ≡ (n, one.0) ∷ left_from n' s' = left_step s s' n n' is others ∙ in_front_of n (get s n) one.0 (left_from n' s') one.1 in
-    let told = told-both (left_from n s) (left_from n' s') (n, one.0) first t one.3 in (
-      passed-single (left_from n s) (left_from n' s') (n, one.0) first t single,
-      ap (is_released (with_bulk (left_from n s) t)) (sym one.2) ∙ told-was (left_from n s) (left_from n' s') (n, one.0) first t told.0 told.1 single,
-      subst (λ d. IsTaken (with_bulk (left_from n s) t) (with_bulk (left_from n' s') t) d) one.2 (told-taken (left_from n s) (left_from n' s') (n, one.0) first t told.0 told.1 single),
-    )
+  -- and one that is
+  pub step-told : (s s' : Slab Locked) (n n' : ℕ) (t : LockTable) → n' ≡ n + 1 → ((k : ℕ) → (k == n) ≡ false → get s' k ≡ get s k) → (cell : Cell)
+      → ((l : Locked) × (get s n ≡ Some l) × (l.cell ≡ cell) × ((has_keeper all l && not (is_known t l.cell)) ≡ true)) → AreSingle (left_in all (left_from n s))
+      → AreSingle (left_in all (left_from n' s')) × (is_released (with_bulk all (left_from n s) t) cell ≡ true) × IsTaken (with_bulk all (left_from n s) t) (with_bulk all (left_from n' s') t) cell
+  step-told s s' n n' t is others cell one single =
+      let first : left_from n s ≡ (n, one.0) ∷ left_from n' s' = left_step s s' n n' is others ∙ in_front_of n (get s n) one.0 (left_from n' s') one.1 in
+      let told = told-both all (left_from n s) (left_from n' s') (n, one.0) first t one.3 in (
+        passed-single all (left_from n s) (left_from n' s') (n, one.0) first t single,
+        ap (is_released (with_bulk all (left_from n s) t)) (sym one.2) ∙ told-was all (left_from n s) (left_from n' s') (n, one.0) first t told.0 told.1 single,
+        subst (λ d. IsTaken (with_bulk all (left_from n s) t) (with_bulk all (left_from n' s') t) d) one.2 (told-taken all (left_from n s) (left_from n' s') (n, one.0) first t told.0 told.1 single),
+      )
 
 -- Where each of the first slots has a value, as many as there are values, no other has one.
 filled_first : {T : Type 0} (xs : List (Option T)) (n : ℕ) → n ≡ length (filter is_some xs) → ((k : ℕ) → k < n → is_some (slice_index_or xs k None) ≡ true)
@@ -569,7 +558,11 @@ module _ (m n : Cells) (owner : ℕ) (is_owner : (owner == released_owner) ≡ f
         ∙ still released_owner ∙ kept.ready;
   }
 
-  module _ (before bulk : List (ℕ × Locked)) (none : before ≡ []) (given : (c : Cell) → is_left bulk c ≡ is_marked_at m c) where
+  -- no cell is locked then
+  pub given-free : (c : Cell) → is_locked (table_of n (finite.remove mid owner)) c ≡ false
+  given-free c = locked-seen n (finite.remove mid owner) c ∙ unmarked c
+
+  module _ (was all : Bool) (before bulk : List (ℕ × Locked)) (none : before ≡ []) (given : (c : Cell) → is_left all bulk c ≡ is_kept_at all m c) where
     abbrev before_table : LockTable
     before_table = table_of m old
 
@@ -583,25 +576,83 @@ module _ (m n : Cells) (owner : ℕ) (is_owner : (owner == released_owner) ≡ f
         (λ e. sym (ap (λ b. not b && has_lock before_table l) e))
         (λ e. sym (λ i. not (e i) && (lines-seen m old l ∙ ap (λ o. has_mark_of o l) (alone l.cell l.owner e)) i))
 
-    none_before : (c : Cell) → is_released (with_bulk before before_table) c ≡ false
+    none_before : (c : Cell) → is_released (with_bulk was before before_table) c ≡ false
     none_before c =
-        ap (λ x. is_released x c) (gone-none before before_table none) ∙ released_cells-seen m old c
+        ap (λ x. is_released x c) (gone-none was before before_table none) ∙ released_cells-seen m old c
         ∙ ap (λ o. is_some o && not (is_marked_at m c)) (alone c released_owner not_zero)
 
-    given_let_go : (c : Cell) → is_released (with_bulk bulk after_table) c ≡ (is_released (with_bulk before before_table) c || (is_locked before_table c && not (is_locked after_table c)))
+    none_after : (c : Cell) → is_kept_by all after_table c ≡ false
+    none_after c = by_test (is_kept_by all after_table c) (λ kept. absurd (false≢true (sym (given-free c) ∙ kept-locked all after_table c kept))) (λ free. free)
+
+    given_let_go : (c : Cell) → is_released (with_bulk all bulk after_table) c
+        ≡ (is_released (with_bulk was before before_table) c || (is_kept_by all (with_bulk was before before_table) c && not (is_kept_by all (with_bulk all bulk after_table) c)))
     given_let_go c =
-        let free = locked-seen n (finite.remove mid owner) c ∙ unmarked c in
-        gone-seen bulk after_table c
-        ∙ (λ i. (released_cells-seen n (finite.remove mid owner) c ∙ ap (λ o. is_some o && not (is_marked_at n c)) (nothing c released_owner)) i || (not (free i) && given c i))
-        ∙ and_all (is_marked_at m c)
-        ∙ sym (λ i. none_before c i || (locked-seen m old c i && not (free i)))
+        gone-seen all bulk after_table c
+        ∙ (λ i. (released_cells-seen n (finite.remove mid owner) c ∙ ap (λ o. is_some o && not (is_marked_at n c)) (nothing c released_owner)) i || (not (given-free c i) && given c i))
+        ∙ and_all (is_kept_at all m c)
+        ∙ sym (λ i. none_before c i || (kept-seen all m old c i && not (none_after c i)))
       where
         and_all : (b : Bool) → b ≡ (b && true)
         and_all true = refl
         and_all false = refl
 
-    pub given-released : AreReleased (with_bulk before before_table) (with_bulk bulk after_table) owner
+    pub given-released : AreFreed all (with_bulk was before before_table) (with_bulk all bulk after_table) owner
     given-released = record { lines = given_line; released_cells = given_let_go; opened = closed_opened m n old mid owner still }
+
+-- The same tables, whichever locks keep their cells.
+
+pub seen-given : (k j : Bool) (t s : LockTable) (txn : ℕ) (accesses : List Access) → AreGiven t s txn accesses → AreGiven (seen_as k t) (seen_as j s) txn accesses
+seen-given k j t s txn accesses are = record { lines = are.lines; released_cells = are.released_cells; opened = are.opened }
+
+pub seen-inherited : (k : Bool) (t s : LockTable) (child parent : ℕ) → AreInherited t s child parent → AreInherited (seen_as k t) (seen_as k s) child parent
+seen-inherited k t s child parent are = record { lines = are.lines; released_cells = are.released_cells; opened = are.opened; keeps_all = refl }
+
+seen-freed : (all k j : Bool) (t s : LockTable) (txn : ℕ) → AreFreed all t s txn → AreFreed all (seen_as k t) (seen_as j s) txn
+seen-freed all k j t s txn are = record { lines = are.lines; released_cells = are.released_cells; opened = are.opened }
+
+-- all at once
+pub at-once : (k : Bool) (t s : LockTable) (txn : ℕ) → AreFreed k t s txn → ((c : Cell) → is_locked s c ≡ false) → AreReleased (seen_as k t) (seen_as false s) txn
+at-once true t s txn are none = record { freed = seen-freed true true false t s txn are; free = λ _. none }
+at-once false t s txn are none = record { freed = seen-freed false false false t s txn are; free = λ _. none }
+
+-- one by one
+pub one-by-one : (k : Bool) (t s : LockTable) (txn : ℕ) → AreFreed true t s txn → AreReleased (seen_as k t) (seen_as true s) txn
+one-by-one true t s txn are = record { freed = seen-freed true true true t s txn are; free = λ e. absurd (false≢true (sym e)) }
+one-by-one false t s txn are = record { freed = seen-freed true false true t s txn are; free = λ e. absurd (false≢true (sym e)) }
+
+-- where released cells are left, any lock keeps its cell after a grant
+module _ (k has : Bool) (t s : LockTable) (txn : ℕ) (accesses : List Access) (are : AreGiven t s txn accesses) (none : has ≡ false → (c : Cell) → is_released t c ≡ false) where
+  more-kept : (c : Cell) → is_kept_by k t c ≡ true → is_kept_by k s c ≡ true
+  more-kept = still-kept k t s (λ l e. (l, are.lines l ∙ or_left (has_lock t l) _ e, refl, refl))
+
+  locked-then : (c : Cell) → is_locked s c ≡ true → has ≡ true → is_kept_by (k || has) s c ≡ true
+  locked-then c locked is = ap (λ b. is_kept_by b s c) (ap (λ b. k || b) is ∙ or_true k) ∙ locked
+    where
+      or_true : (b : Bool) → (b || true) ≡ true
+      or_true true = refl
+      or_true false = refl
+
+  kept-then : (c : Cell) → is_kept_by k s c ≡ true → is_kept_by (k || has) s c ≡ true
+  kept-then c kept = by_test has
+      (λ e. locked-then c (kept-locked k s c kept) e)
+      (λ e. ap (λ b. is_kept_by b s c) (ap (λ b. k || b) e ∙ or_false k) ∙ kept)
+    where
+      or_false : (b : Bool) → (b || false) ≡ b
+      or_false true = refl
+      or_false false = refl
+
+  granted-useless : (c : Cell) → may_be_useless (seen_as k t) c ≡ true → may_be_useless (seen_as (k || has) s) c ≡ true
+  granted-useless c h = elim (or_cases (is_kept_by k t c) (is_released t c) h) [
+    | inl kept ↦ or_left (is_kept_by (k || has) s c) (is_released s c) (kept-then c (more-kept c kept))
+    | inr was ↦ by_test has
+        (λ left. by_test (is_accessed accesses c)
+        (λ accessed. or_left (is_kept_by (k || has) s c) (is_released s c) (locked-then c (granted_locked true [] t s txn accesses are c ∙ or_right (is_locked t c) (is_accessed accesses c) accessed) left))
+        (λ apart. or_right (is_kept_by (k || has) s c) (is_released s c) (are.released_cells c ∙ and_from (is_released t c) (not (is_accessed accesses c)) was (ap not apart))))
+        (λ no. absurd (false≢true (sym (none no c) ∙ was)))
+  ]
+
+  pub granted-seen : AreGranted (seen_as k t) (seen_as (k || has) s) txn accesses
+  granted-seen = record { given = seen-given k (k || has) t s txn accesses are; useless = granted-useless }
 
 -- a list with no cell
 none_listed : (l : List Cell) → ((c : Cell) → list_any (same_cell c) l ≡ false) → l ≡ []

@@ -6,9 +6,9 @@ ghost use Rattle.ft_lock_rules.specs.Holdings.{AreSingle};
 ghost use Rattle.ft_lock_rules.specs.Knowing.{is_known};
 ghost use Rattle.ft_lock_rules.specs.Locks.{is_released};
 ghost use Rattle.ft_lock_rules.specs.Seen.{locks_in};
-ghost use Rattle.ft_locks.specs.BulkReleased.{is_unreported, IsUnreportedAt, left_in, with_bulk, IsTaken};
+ghost use Rattle.ft_locks.specs.BulkReleased.{has_keeper, is_unreported, IsUnreportedAt, left_in, with_bulk, IsTaken};
 
-use crate::cells::{Locked, RELEASED};
+use crate::cells::{Locked, RELEASED, is_kept_among};
 use crate::holdings::Holdings;
 use ft_tree::Cell;
 use slab::Slab;
@@ -56,26 +56,34 @@ fn is_known(holdings: &Holdings, cell: &Cell) -> bool
     }
 }
 
-/// Returns whether a cell that was released with others at once is to be reported: some owner had a
-/// lock on it, it is not locked now, and it was not released one by one.
-fn is_unreported(holdings: &Holdings, bulk: &Locked) -> bool
-    ensures { result ≡ is_unreported (locks_in holdings.now) bulk.now }
+/// Returns whether some owner had a lock that kept a cell from a sweep: any lock if `all`, and
+/// otherwise one by which the owner may have emptied the cell's place.
+fn has_keeper(bulk: &Locked, all: bool) -> bool
+    ensures { result ≡ has_keeper all bulk.now }
 {
-    bulk.holders.is_locked() && !is_known(holdings, &bulk.cell)
+    is_kept_among(&bulk.cell, &bulk.holders, all)
+}
+
+/// Returns whether a cell that was released with others at once is to be reported: a lock kept it
+/// from a sweep, it is not locked now, and it was not released one by one.
+fn is_unreported(holdings: &Holdings, bulk: &Locked, all: bool) -> bool
+    ensures { result ≡ is_unreported all (locks_in holdings.now) bulk.now }
+{
+    has_keeper(bulk, all) && !is_known(holdings, &bulk.cell)
 }
 
 /// Returns the cell under a key, if there is one and it is to be reported, and puts another in its
 /// place. Takes no memory.
-fn take_cell(cells: &mut Slab<Locked>, key: usize, holdings: &Holdings) -> Option<Cell>
+fn take_cell(cells: &mut Slab<Locked>, key: usize, holdings: &Holdings, all: bool) -> Option<Cell>
     ensures told { IfSome result
-        (IsUnreportedAt (locks_in holdings.now) cells.old key) }
+        (IsUnreportedAt all (locks_in holdings.now) cells.old key) }
     ensures passed { IfNone result ((l : LockedOf) → get cells.old key ≡ Some l
-        → is_unreported (locks_in holdings.now) l ≡ false) }
+        → is_unreported all (locks_in holdings.now) l ≡ false) }
     ensures others { (k : ℕ) → (k == key) ≡ false → get cells.new k ≡ get cells.old k }
     ensures still { (k : ℕ) → IsSome (get cells.new k) → IsSome (get cells.old k) }
 {
     let locked = cells.get_mut(key)?;
-    if !is_unreported(holdings, locked) {
+    if !is_unreported(holdings, locked, all) {
         return None;
     }
     Some(mem::replace(&mut locked.cell, Cell::Fd(0)))
@@ -115,21 +123,24 @@ impl BulkReleased {
 
     /// Removes the cells up to the first one that is to be reported, and returns that one. If there
     /// is none, all are removed. Takes no memory.
-    pub(crate) fn take(&mut self, holdings: &Holdings) -> Option<Cell>
-        requires { AreSingle (left_in self.old) }
-        ensures single { AreSingle (left_in self.new) }
+    ///
+    /// If `all`, each cell on which some owner had a lock is to be reported. Otherwise only a cell
+    /// whose place some owner may have emptied is.
+    pub(crate) fn take(&mut self, holdings: &Holdings, all: bool) -> Option<Cell>
+        requires { AreSingle (left_in all self.old) }
+        ensures single { AreSingle (left_in all self.new) }
         ensures cell { IfSome result
-            (λ cell. is_released (with_bulk self.old (locks_in holdings.now)) cell ≡ true) }
+            (λ cell. is_released (with_bulk all self.old (locks_in holdings.now)) cell ≡ true) }
         ensures taken { IfSome result
-            (λ cell. IsTaken (with_bulk self.old (locks_in holdings.now))
-            (with_bulk self.new (locks_in holdings.now)) cell) }
+            (λ cell. IsTaken (with_bulk all self.old (locks_in holdings.now))
+            (with_bulk all self.new (locks_in holdings.now)) cell) }
         ensures none { IfNone result ((self.new ≡ [])
-            × (with_bulk self.old (locks_in holdings.now) ≡ locks_in holdings.now)) }
+            × (with_bulk all self.old (locks_in holdings.now) ≡ locks_in holdings.now)) }
     {
         while self.next < self.end {
             let key = self.next;
             self.next += 1;
-            let told = take_cell(&mut self.cells, key, holdings);
+            let told = take_cell(&mut self.cells, key, holdings, all);
             if told.is_some() {
                 return told;
             }

@@ -1,10 +1,12 @@
 // The cells on which any owner has a place. A slab stores the cells, and an index has their keys.
-ghost use Rattle.std.specs.Prelude.{◌≡◌, ◌≢◌, ℕ, cond, ◌==◌, true, false, None, Some, IsSome, IsSomeAnd, is_some, OnOk, OnErr, OnSome, IfOk, IfSome, IfNone, ◌<◌};
+ghost use Rattle.std.specs.Prelude.{◌≡◌, ◌≢◌, ℕ, Bool, cond, ◌==◌, true, false, None, Some, IsSome, IsSomeAnd, is_some, OnOk, OnErr, OnSome, IfOk, IfSome, IfNone, ◌<◌};
 ghost use Rattle.std.specs.Option.{option_map, option_copied, option_copied_mut};
 ghost use Rattle.std.specs.FinMap as finite;
 ghost use Rattle.std.specs.Borrow.{sem};
 ghost use Rattle.ft_cells.specs.declared.cell.Cell.{Cell};
 ghost use Rattle.ft_cells.specs.declared.cell.Cell.TheVariants.{Names};
+ghost use Rattle.std.specs.List.{list_any};
+ghost use Rattle.ft_posix.specs.Posix.{file_of};
 ghost use Rattle.ft_lock_rules.specs.LockModes.{with_marks};
 ghost use Rattle.slab.specs.Slab.{get};
 ghost use Rattle.ft_lock_rules.specs.Blocking.{AreEntriesOf};
@@ -14,7 +16,7 @@ ghost use Rattle.ft_locks.specs.Slots.{ArePlaced, HaveGap, ShowSame, with_place,
 ghost use Rattle.ft_lock_rules.specs.Cells.{marks_at, passed_to, holders_under, Keeps, UpdatesMark, HandsPlace};
 ghost use Rattle.ft_lock_rules.specs.Holdings.{AreSingle};
 ghost use Rattle.ft_lock_rules.specs.Listing.{AreAdded, once};
-ghost use Rattle.ft_lock_rules.specs.Seen.{has_line, is_marked_at};
+ghost use Rattle.ft_lock_rules.specs.Seen.{has_line, empties, keeps_of, is_kept_among, is_kept_at};
 ghost use Rattle.ft_locks.specs.BulkReleased.{left_in, is_left, IsAllOf};
 
 use crate::bulk_released::BulkReleased;
@@ -22,7 +24,8 @@ use crate::cell_index::CellIndex;
 use crate::entry_keys::EntryKeys;
 use crate::listing::list_cells;
 use ft_base::Memory;
-use ft_lock_rules::{CellLocks, LockLine, LockModes};
+use ft_lock_rules::{CellLocks, LockLine, LockModes, OwnerLocks};
+use ft_posix::Mode;
 use ft_tree::Cell;
 use slab::Slab;
 use std::alloc::Global;
@@ -89,6 +92,50 @@ fn handed_to(to: u64, marks: LockModes) -> LockModes
     } else {
         marks.as_retained()
     }
+}
+
+/// Returns whether a cell is of a file.
+fn is_of_file(cell: &Cell) -> bool
+    ensures { result ≡ is_some (file_of cell.now) }
+{
+    matches!(
+        cell,
+        Cell::Links(_) | Cell::Bytes(_) | Cell::FileAttributes(_)
+    )
+}
+
+/// Returns whether an owner with these locks may have emptied the place of a cell: by a lock to
+/// write or, if the cell is of a file, by any lock. (The last close of a file only reads its
+/// links.)
+fn may_empty(cell: &Cell, marks: LockModes) -> bool
+    ensures { result ≡ empties cell.now marks }
+{
+    marks.conflicts_with(Mode::Read) || (is_of_file(cell) && marks.is_some())
+}
+
+/// Returns whether one of these locks keeps a cell from a sweep: any lock if `all`, and otherwise
+/// one by which the cell's place may have been emptied.
+fn keeps(cell: &Cell, marks: LockModes, all: bool) -> bool
+    ensures { result ≡ keeps_of all cell.now (Some marks) }
+{
+    if all {
+        return marks.is_some();
+    }
+    may_empty(cell, marks)
+}
+
+/// Returns whether the locks of some owner in a list keep a cell from a sweep.
+fn is_kept_in(cell: &Cell, list: &[OwnerLocks], all: bool) -> bool
+    ensures { result ≡ list_any (λ h. keeps_of all cell.now (Some h.marks)) list.now }
+{
+    list.iter().any(|holding| keeps(cell, holding.marks, all))
+}
+
+/// Returns whether the locks of some owner of a cell keep the cell from a sweep.
+pub(crate) fn is_kept_among(cell: &Cell, holders: &CellLocks, all: bool) -> bool
+    ensures { result ≡ is_kept_among all cell.now holders.now }
+{
+    is_kept_in(cell, holders.as_slice(), all)
 }
 
 /// Returns whether a cell is the names of a directory.
@@ -350,8 +397,9 @@ impl LockedCells {
     /// no memory.
     pub(crate) fn give_up(&mut self, bulk: &mut BulkReleased, end: usize)
         requires { (k : ℕ) → IsSome (finite.get self.old.at k) → k < end }
-        ensures single { AreSingle (left_in bulk.new) }
-        ensures given { (c : Cell) → is_left bulk.new c ≡ is_marked_at self.old.cells c }
+        ensures single { (all : Bool) → AreSingle (left_in all bulk.new) }
+        ensures given { (all : Bool) (c : Cell) → is_left all bulk.new c
+            ≡ is_kept_at all self.old.cells c }
         ensures cells { self.new.cells ≡ finite.empty }
         ensures at { self.new.at ≡ finite.empty }
     {

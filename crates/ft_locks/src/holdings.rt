@@ -1,5 +1,5 @@
 // The places of owners on cells, found both by cell and by owner.
-ghost use Rattle.std.specs.Prelude.{◌≡◌, ◌≢◌, ◌+◌, ◌==◌, ℕ, cond, true, false, [], ◌∷◌, length, None, Some, IsSome, IfSome, IfNone, IfOk, OnOk, OnErr};
+ghost use Rattle.std.specs.Prelude.{◌≡◌, ◌≢◌, ◌+◌, ◌==◌, ℕ, Bool, cond, true, false, [], ◌∷◌, length, None, Some, IsSome, IfSome, IfNone, IfOk, OnOk, OnErr};
 ghost use Rattle.std.specs.Option.{option_map, option_copied};
 ghost use Rattle.std.specs.FinMap as finite;
 ghost use Rattle.ft_base.specs.OwnedLists.{list_in, IsOpen};
@@ -74,7 +74,7 @@ fn hand_all(cells: &mut LockedCells, keys: Values<'_, usize>, from: u64, to: u64
 
 impl Holdings {
     ghost use Rattle.ft_lock_rules.specs.Listing.{AreAdded, once};
-    ghost use Rattle.ft_lock_rules.specs.Seen.{has_line, is_marked_at};
+    ghost use Rattle.ft_lock_rules.specs.Seen.{has_line, is_kept_at};
     ghost use Rattle.ft_lock_rules.specs.Surveys.{HoldsAll};
     ghost use Rattle.ft_locks.specs.Giving.{KeepsOtherLines, AddsPlaces, AddsLinesAtPlaces};
     ghost use Rattle.ft_locks.specs.BulkReleased.{left_in, is_left};
@@ -139,6 +139,13 @@ impl Holdings {
         ensures { option_copied result ≡ finite.get self.now.cells cell.now }
     {
         self.cells.get(cell)
+    }
+
+    /// Returns whether an owner has no place.
+    pub(crate) fn is_bare(&self, owner: u64) -> bool
+        ensures { result ≡ true → (c : Cell) → marks_at self.now.cells c owner ≡ None }
+    {
+        self.chains.is_empty(owner)
     }
 
     /// Returns the cells on which any owner has a place.
@@ -276,9 +283,9 @@ impl Holdings {
         requires { IsOpen self.old.lists owner }
         ensures alone { result ≡ true → (c : Cell) (u : ℕ) → (u == owner) ≡ false
             → marks_at self.old.cells c u ≡ None }
-        ensures single { result ≡ true → AreSingle (left_in bulk.new) }
-        ensures given { result ≡ true → (c : Cell)
-            → is_left bulk.new c ≡ is_marked_at self.old.cells c }
+        ensures single { result ≡ true → (all : Bool) → AreSingle (left_in all bulk.new) }
+        ensures given { result ≡ true → (all : Bool) (c : Cell)
+            → is_left all bulk.new c ≡ is_kept_at all self.old.cells c }
         ensures cells { result ≡ true → self.new.cells ≡ finite.empty }
         ensures list { result ≡ true → list_in self.new.lists owner ≡ [] }
         ensures still { AreOpenStill self.old.lists self.new.lists }

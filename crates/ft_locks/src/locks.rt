@@ -1,18 +1,19 @@
 // The lock table.
-ghost use Rattle.std.specs.Prelude.{◌≡◌, ◌≢◌, ◌<◌, ◌≤◌, ℕ, take, length, true, [], OnOk, OnErr, IfOk, IfSome, IfNone};
+ghost use Rattle.std.specs.Prelude.{◌≡◌, ◌≢◌, ◌<◌, ◌≤◌, ◌||◌, ℕ, Bool, cond, take, length, true, false, [], OnOk, OnErr, IfOk, IfSome, IfNone};
+ghost use Rattle.ft_cells.specs.declared.cell.Cell.{Cell as CellOf};
 ghost use Rattle.std.specs.FinMap as finite;
 ghost use Rattle.std.specs.FinSet as set;
 ghost use Rattle.ft_base.specs.OwnedLists.{list_in, IsOpen};
 ghost use Rattle.ft_lock_rules.specs.Holdings.{AreSingle};
 ghost use Rattle.ft_lock_rules.specs.Seen.{table_of, IsKept, locks_in, locks_without};
-ghost use Rattle.ft_locks.specs.BulkReleased.{left_in, with_bulk, IsTaken};
-ghost use Rattle.ft_lock_rules.specs.Locks.{no_locks, is_locked, is_released, is_opened, AreBlockers, AreGranted, AreInherited, AreListed, AreReleased};
+ghost use Rattle.ft_locks.specs.BulkReleased.{left_in, with_bulk, seen_as, IsTaken};
+ghost use Rattle.ft_lock_rules.specs.Locks.{no_locks, is_locked, is_released, is_opened, AreBlockers, AreFreed, AreGiven, AreGranted, AreInherited, AreListed, AreReleased};
 ghost use Rattle.ft_lock_rules.specs.Rules.{is_strict};
 ghost use Rattle.ft_lock_rules.specs.Surveys.{HasItsCellsAlone, HasNoHolderAbove};
 
 use crate::blocking::{Asker, check_access, note_access, sorted_owners};
 use crate::bulk_released::BulkReleased;
-use crate::cells::RELEASED;
+use crate::cells::{RELEASED, is_kept_among};
 use crate::holdings::{Dropped, Holdings};
 use ft_base::{Memory, Table};
 use ft_forest::{Forest, TxnId};
@@ -37,6 +38,12 @@ pub struct Locks {
     /// Cells that were released all at once and are not reported yet, with the owners that had
     /// places on them.
     bulk: BulkReleased,
+    /// Whether every lock kept its cell from a sweep when `bulk` was released, and not only the
+    /// locks by which the cell's place may have been emptied.
+    bulk_all: bool,
+    /// Whether every lock keeps its cell from a sweep. A release one by one and a grant while
+    /// released cells are left make this true, and a release of all locks at once makes it false.
+    keeps_all: bool,
 }
 
 impl Drop for Locks {
@@ -46,6 +53,8 @@ impl Drop for Locks {
             alloc: _,
             holdings: _,
             bulk: _,
+            bulk_all: _,
+            keeps_all: _,
         } = self;
     }
 }
@@ -64,16 +73,17 @@ impl Model for Locks {
     ghost use Rattle.ft_lock_rules.specs.Locks.{LockTable, coded_table};
     ghost use Rattle.ft_lock_rules.specs.Holdings.{AreSingle};
     ghost use Rattle.ft_lock_rules.specs.Seen.{table_of, IsKept};
-    ghost use Rattle.ft_locks.specs.BulkReleased.{left_in, with_bulk};
+    ghost use Rattle.ft_locks.specs.BulkReleased.{left_in, with_bulk, seen_as};
 
     ghost Value = { LockTable };
 
     ghost coded = { coded_table };
 
-    ghost view = { λ a. with_bulk a.bulk (table_of a.holdings.cells a.holdings.lists) };
+    ghost view = { λ a. seen_as a.keeps_all
+        (with_bulk a.bulk_all a.bulk (table_of a.holdings.cells a.holdings.lists)) };
 
     ghost invariant = { λ a. IsKept a.holdings.cells a.holdings.lists
-        × AreSingle (left_in a.bulk) };
+        × AreSingle (left_in a.bulk_all a.bulk) };
 }
 
 impl Locks {
@@ -87,6 +97,8 @@ impl Locks {
             alloc,
             holdings,
             bulk: BulkReleased::new(alloc),
+            bulk_all: false,
+            keeps_all: false,
         }
     }
 
@@ -189,10 +201,9 @@ impl Locks {
         ensures ok { OnOk result (AreGranted self.old self.new txn accesses.now) }
         ensures err { OnErr result (self.new ≡ self.old) }
     {
-        let has_all = self.holdings.reserve(txn.0, accesses)?;
-        if !has_all {
-            self.holdings.mark_all(txn.0, accesses);
-        }
+        let has_released = self.has_released();
+        give_locks(&mut self.holdings, txn.0, accesses)?;
+        self.keeps_all |= has_released;
         Ok(())
     }
 
@@ -209,13 +220,26 @@ impl Locks {
     }
 
     /// Drops a transaction's locks and closes it (Moss 1981, commit of a top-level transaction, and
-    /// abort). A cell that was locked and no longer is becomes a released cell. Takes no memory.
+    /// abort). A cell that was locked and no longer is becomes a released cell. If all locks are
+    /// released at once and not every lock kept its cell from a sweep, only a cell whose place may
+    /// have been emptied becomes one. Takes no memory.
     pub fn release(&mut self, txn: TxnId)
         requires { is_opened self.old txn ≡ true }
         ensures { AreReleased self.old self.new txn }
     {
-        release_places(&mut self.holdings, &mut self.bulk, txn.0);
+        let at_once = release_places(&mut self.holdings, &mut self.bulk, txn.0);
         self.holdings.close(txn.0);
+        if at_once {
+            self.bulk_all = self.keeps_all;
+        }
+        self.keeps_all = !at_once;
+    }
+
+    /// Returns whether there may be a released cell that is not reported yet.
+    fn has_released(&self) -> bool
+        ensures { result ≡ false → (c : CellOf) → is_released self.now c ≡ false }
+    {
+        !self.bulk.is_empty() || !self.holdings.is_bare(RELEASED)
     }
 
     /// Returns the locks in their order. Takes the time to sort them.
@@ -240,7 +264,7 @@ impl Locks {
         ensures none { IfNone result ((self.old.released_cells ≡ set.empty)
             × (self.new ≡ self.old)) }
     {
-        let told = self.bulk.take(&self.holdings);
+        let told = self.bulk.take(&self.holdings, self.bulk_all);
         if told.is_some() {
             return told;
         }
@@ -248,22 +272,48 @@ impl Locks {
     }
 }
 
-/// Releases the places of an owner. They are released all at once if `bulk` is empty and
-/// `Holdings::give_up` succeeds, and otherwise one by one. Takes no memory.
-fn release_places(holdings: &mut Holdings, bulk: &mut BulkReleased, owner: u64)
+/// Gives an owner the locks of these accesses. If there is not enough memory, nothing changes that
+/// callers see.
+fn give_locks(holdings: &mut Holdings, owner: u64, accesses: &[Access]) -> Result<(), Memory>
+    requires kept { IsKept holdings.old.cells holdings.old.lists }
+    requires there { IsOpen holdings.old.lists owner }
+    requires apart { owner ≢ 0 }
+    ensures kept { IsKept holdings.new.cells holdings.new.lists }
+    ensures ok { OnOk result
+        (AreGiven (locks_in holdings.old) (locks_in holdings.new) owner accesses.now) }
+    ensures err { OnErr result (locks_in holdings.new ≡ locks_in holdings.old) }
+{
+    let has_all = holdings.reserve(owner, accesses)?;
+    if !has_all {
+        holdings.mark_all(owner, accesses);
+    }
+    Ok(())
+}
+
+/// Releases the places of an owner, and returns whether it did so all at once. It does if `bulk` is
+/// empty and `Holdings::give_up` succeeds; otherwise it releases them one by one. Takes no memory.
+fn release_places(holdings: &mut Holdings, bulk: &mut BulkReleased, owner: u64) -> bool
     requires kept { IsKept holdings.old.cells holdings.old.lists }
     requires there { IsOpen holdings.old.lists owner }
     requires apart { owner ≢ 0 }
     ensures kept { IsKept holdings.new.cells (finite.remove holdings.new.lists owner) }
     ensures list { list_in holdings.new.lists owner ≡ [] }
-    ensures single { AreSingle (left_in bulk.old) → AreSingle (left_in bulk.new) }
-    ensures released { AreReleased (with_bulk bulk.old (locks_in holdings.old))
-        (with_bulk bulk.new (locks_without holdings.new owner)) owner }
+    ensures single { (all : Bool) → (result ≡ false → AreSingle (left_in all bulk.old))
+        → AreSingle (left_in all bulk.new) }
+    ensures none_left { result ≡ true → (c : CellOf)
+        → is_locked (locks_without holdings.new owner) c ≡ false }
+    ensures at_once { result ≡ true → (was all : Bool)
+        → AreFreed all (with_bulk was bulk.old (locks_in holdings.old))
+        (with_bulk all bulk.new (locks_without holdings.new owner)) owner }
+    ensures one_by_one { result ≡ false → (all : Bool)
+        → AreFreed true (with_bulk all bulk.old (locks_in holdings.old))
+        (with_bulk all bulk.new (locks_without holdings.new owner)) owner }
 {
     if bulk.is_empty() && holdings.give_up(owner, bulk) {
-        return;
+        return true;
     }
     holdings.hand_over(owner, RELEASED);
+    false
 }
 
 /// Removes and returns one of the cells that were released one by one and have not been locked
@@ -286,18 +336,18 @@ fn take_listed(holdings: &mut Holdings) -> Option<Cell>
 }
 
 impl Keeps for Locks {
-    ghost use Rattle.ft_lock_rules.specs.Locks.{LockTable, is_locked};
+    ghost use Rattle.ft_lock_rules.specs.Locks.{LockTable, is_kept};
 
-    ghost kept = { is_locked };
+    ghost kept = { is_kept };
 
     ghost released_cells = { λ (t : LockTable). t.released_cells };
 
     ghost all_told = { λ (t : LockTable). record t { released_cells = set.empty } };
 
-    /// Returns whether some transaction has a lock on the cell.
+    /// Returns whether a lock of some transaction keeps the cell from a sweep.
     fn keeps(&self, cell: &Cell) -> bool {
         match self.holdings.holders(cell) {
-            Some(holders) => holders.is_locked(),
+            Some(holders) => is_kept_among(cell, holders, self.keeps_all),
             None => false,
         }
     }

@@ -13,7 +13,6 @@ ghost use Rattle.ft_record.specs.Recent.{freed_by_commit};
 
 use crate::record::Record;
 use ft_calls::Call;
-use ft_core::laws::reached;
 use ft_core::{Core, Event, Fault, FullAbort, Outcome, TxnId};
 use std::marker::Model;
 use std::snapshot::Snapshot;
@@ -57,7 +56,6 @@ impl Recent {
         ensures core { result.core ≡ core }
         ensures forgotten { result.forgotten ≡ 0 }
     {
-        reached(&core);
         let past = Record::new(core.alloc());
         Recent {
             core,

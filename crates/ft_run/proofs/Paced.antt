@@ -9,7 +9,7 @@ abbrev pub HasTurns : Choice → Type 0
 HasTurns (Play strict rule after limits) = Unit {0}
 HasTurns Dot = Unit {0}
 HasTurns (Load dir skip check set_id quiet limits) = Unit {0}
-HasTurns (Save dir set_id no_owners quiet limits) = Unit {0}
+HasTurns (Save dir how limits) = Unit {0}
 HasTurns (Jobs file pace quiet rule after limits) = 1 ≤ pace.turns
 HasTurns (Help text) = Unit {0}
 HasTurns (Usage text) = Unit {0}
@@ -20,7 +20,7 @@ pub turns_asked : (words : List (List ℕ)) (choice : Choice) → ChoiceOf words
 turns_asked words (Play strict rule after limits) given = tt
 turns_asked words Dot given = tt
 turns_asked words (Load dir skip check set_id quiet limits) given = tt
-turns_asked words (Save dir set_id no_owners quiet limits) given = tt
+turns_asked words (Save dir how limits) given = tt
 turns_asked words (Jobs file pace quiet rule after limits) given = given.1.2.2
 turns_asked words (Help text) given = tt
 turns_asked words (Usage text) given = tt

@@ -1,3 +1,4 @@
 -- What callers cite.
 pub mod FaultLines
+pub mod SavesInto
 pub mod Statuses

@@ -20,40 +20,40 @@ use Rattle.ft_script.specs.declared.strictly.StrictFault.TheVariants.{Line}
 use Rattle.ft_script.specs.Runs.{Answers, PlaysAll, StopsAt, StopsStrictly, WritesFront}
 use Rattle.ft_run.specs.FaultLines.{TellsLine, fault_line, run_fault_line, save_line, stopped_line, strict_line}
 
--- what is left of a reader, or what a writer holds
-abbrev pub Known : Type 0 → Type 0
-Known A = A → Option (List ℕ)
+-- the contents of a stream, if they are known: what is left of a reader, or what a writer holds
+abbrev pub ContentsOf : Type 0 → Type 0
+ContentsOf A = A → Option (List ℕ)
 
 -- A script was read to its end from this state on, and its lines were answered so.
-abbrev pub PlaysToEnd : {R W : Type 0} → Answers → Known R → Known W → R → R → W → W → State → Type 0
+abbrev pub PlaysToEnd : {R W : Type 0} → Answers → ContentsOf R → ContentsOf W → R → R → W → W → State → Type 0
 PlaysToEnd answers left held reader reader_after writer writer_after state = (new : State) × PlaysAll answers (left reader) (left reader_after) (held writer) (held writer_after) state new
 
 -- It was read and run up to a fault, which was reported.
-abbrev pub FailsToPlay : {R W E : Type 0} → Answers → Known R → Known W → Known E → R → R → W → W → E → E → State → Type 0
+abbrev pub FailsToPlay : {R W E : Type 0} → Answers → ContentsOf R → ContentsOf W → ContentsOf E → R → R → W → W → E → E → State → Type 0
 FailsToPlay answers left held told reader reader_after writer writer_after errors errors_after state =
     (fault : PlayFault) × (new : State) × StopsAt answers fault (left reader) (left reader_after) (held writer) (held writer_after) state new × WritesFront (told errors) (told errors_after) (fault_line fault)
 
 -- A strict script was, up to a line that did not do what it requests, which was reported.
-abbrev pub FailsAtLine : {R W E : Type 0} → Known R → Known W → Known E → R → R → W → W → E → E → State → Type 0
+abbrev pub FailsAtLine : {R W E : Type 0} → ContentsOf R → ContentsOf W → ContentsOf E → R → R → W → W → E → E → State → Type 0
 FailsAtLine left held told reader reader_after writer writer_after errors errors_after state =
     (failed : FailedLine) × (new : State) × StopsStrictly (Line failed) (left reader) (left reader_after) (held writer) (held writer_after) state new × TellsLine (told errors) (told errors_after) (strict_line failed)
 
 -- A fault came before the drawing was written whole, and was reported.
-abbrev pub FailsToDraw : {R W E : Type 0} → Known R → Known W → Known E → R → R → W → W → E → E → Type 0
+abbrev pub FailsToDraw : {R W E : Type 0} → ContentsOf R → ContentsOf W → ContentsOf E → R → R → W → W → E → E → Type 0
 FailsToDraw left held told reader reader_after writer writer_after errors errors_after =
     (fault : PlayFault) × StopsDrawing fault (left reader) (left reader_after) (held writer) (held writer_after) × WritesFront (told errors) (told errors_after) (fault_line fault)
 
 -- A fault came before all jobs of a plan were run and reported, and was reported.
-abbrev pub FailsToRun : {W E : Type 0} → State → List ℕ → Known W → Known E → W → W → E → E → Type 0
+abbrev pub FailsToRun : {W E : Type 0} → State → List ℕ → ContentsOf W → ContentsOf E → W → W → E → E → Type 0
 FailsToRun state plan held told writer writer_after errors errors_after =
     (fault : RunFault) × StopsPlan fault state plan (held writer) (held writer_after) × WritesFront (told errors) (told errors_after) (run_fault_line fault)
 
 -- A script of what a source holds was not written whole, and the cause was reported.
-abbrev pub FailsToLoad : {W E : Type 0} → Limits → Bool → (Told → Type 0) → Known W → Known E → W → W → E → E → Type 0
+abbrev pub FailsToLoad : {W E : Type 0} → Limits → Bool → (Told → Type 0) → ContentsOf W → ContentsOf E → W → W → E → E → Type 0
 FailsToLoad limits set_id tells held told writer writer_after errors errors_after =
     (stopped : CopyStop) × StopsLoad limits set_id tells stopped (held writer) (held writer_after) × TellsLine (told errors) (told errors_after) (stopped_line stopped)
 
 -- The tree with which replies end was not made whole, and the cause was reported.
-abbrev pub FailsToSave : {R T E : Type 0} → CopyLimits → (T → Asked → T → Type 0) → (T → Asked → CopyFault → T → Type 0) → Known R → Known E → R → R → T → T → E → E → Type 0
+abbrev pub FailsToSave : {R T E : Type 0} → CopyLimits → (T → Asked → T → Type 0) → (T → Asked → CopyFault → T → Type 0) → ContentsOf R → ContentsOf E → R → R → T → T → E → E → Type 0
 FailsToSave limits does fails left told reader reader_after target target_after errors errors_after =
     (fault : SaveFault) × StopsSave limits does fails fault (left reader) (left reader_after) target target_after × TellsLine (told errors) (told errors_after) (save_line fault)

@@ -217,11 +217,14 @@ impl<'a> Source for DiskSource<'a> {
     }
 
     fn look(&self, path: &[u8], node: u64) -> Result<Found, CopyFault> {
-        let place = if path.is_empty() {
+        let place = if !path.is_empty() {
+            self.reached(path, node)?
+        } else if self.dir.is_empty() {
+            // (nothing has no name, and a slash would lead to the root of the disk)
+            String::new(self.rt.alloc())
+        } else {
             // (it may be a symbolic link that leads to the directory)
             format!(in self.rt.alloc(); "{}/", self.dir)?
-        } else {
-            self.reached(path, node)?
         };
         match fs::symlink_metadata(self.rt, place.as_str()) {
             Ok(metadata) => {

@@ -2,24 +2,18 @@
 use crate::causes::Causes;
 use crate::explained::say;
 use crate::giving::Giving;
-use crate::held::id_of;
+use crate::made::{BEGUN_FILE, Made, make_folder, sync_folder, sync_if};
 use crate::removal::Removal;
 use ft_cells::{Attributes, Timestamp};
-use ft_copy::{CopyFault, FileId, Target};
+use ft_copy::{CopyFault, Target};
 use ft_script::write_out;
-use std::fs::{DirBuilder, File, OpenOptions, Permissions};
+use std::fs::{File, OpenOptions};
 use std::io::{ErrorKind, Write};
-use std::os::unix::fs::{DirBuilderExt, MetadataExt, OpenOptionsExt, PermissionsExt, symlink};
+use std::os::unix::fs::{OpenOptionsExt, symlink};
 use std::{fs, io, str};
 
 /// How many names alongside the directory are tried.
 const MOST_TRIES: u32 = 1_000;
-
-/// The modes of directories and files until they are whole: only their owner gets at them, and can
-/// fill them.
-const BEGUN_FOLDER: u32 = 0o700;
-
-const BEGUN_FILE: u32 = 0o600;
 
 /// A directory that is to be made on disk. It is made under another name alongside its place, and
 /// gets its own when it is whole.
@@ -34,6 +28,8 @@ pub struct DiskTarget<'a> {
     causes: &'a Causes,
     // whether owners and groups are to be kept
     wants_owners: bool,
+    // whether it is to survive a power failure after the end
+    is_synced: bool,
     // the parts until it is whole, once it was begun
     begun: Option<Begun>,
     // the file that is open
@@ -60,23 +56,6 @@ struct Begun {
     removal: Removal,
 }
 
-/// A directory that was made: its place, and what distinguishes it from all others.
-#[derive(Drop)]
-struct Made {
-    place: String,
-    id: FileId,
-}
-
-impl Made {
-    /// Returns whether the directory is there, and not another one or a symbolic link.
-    fn is_there(&self, rt: &HostRuntime) -> bool {
-        match fs::symlink_metadata(rt, self.place.as_str()) {
-            Ok(metadata) => metadata.is_dir() && id_of(&metadata) == self.id,
-            Err(_) => false,
-        }
-    }
-}
-
 impl<'a> DiskTarget<'a> {
     /// Nothing is made yet.
     pub fn new(
@@ -84,12 +63,14 @@ impl<'a> DiskTarget<'a> {
         dir: &'a str,
         causes: &'a Causes,
         wants_owners: bool,
+        is_synced: bool,
     ) -> DiskTarget<'a> {
         DiskTarget {
             rt,
             dir: dir.trim_end_matches('/'),
             causes,
             wants_owners,
+            is_synced,
             begun: None,
             file: None,
         }
@@ -160,6 +141,18 @@ impl<'a> DiskTarget<'a> {
         CopyFault::Exists
     }
 
+    /// Waits until the name of the directory is on the disk, if that is requested.
+    fn sync_around(&self) -> Result<(), CopyFault> {
+        if !self.is_synced {
+            return Ok(());
+        }
+        let around = match self.dir.rfind('/') {
+            Some(slash) => &self.dir[..slash + 1],
+            None => "./",
+        };
+        sync_folder(self.rt, around).map_err(|error| self.causes.of_write(around.len(), error))
+    }
+
     /// Returns whether something is at the place that the directory is to have.
     fn is_taken(&self) -> bool {
         self.dir.is_empty() || fs::symlink_metadata(self.rt, self.dir).is_ok()
@@ -223,10 +216,12 @@ impl Target for DiskTarget<'_> {
         let (Some(open), Some(begun)) = (self.file.take(), &mut self.begun) else {
             return Err(CopyFault::Write);
         };
+        let is_synced = self.is_synced;
         let giving = &mut begun.giving;
         giving
             .set_time(&open.file, time)
             .and_then(|()| giving.give(&open.file, open.attributes))
+            .and_then(|()| sync_if(&open.file, is_synced))
             .map_err(|error| causes.of_write(0, error))
     }
 
@@ -256,13 +251,13 @@ impl Target for DiskTarget<'_> {
         let Some(begun) = &mut self.begun else {
             return Err(CopyFault::Write);
         };
-        begun.give_folders(self.rt, causes, attributes)?;
+        begun.give_folders(self.rt, causes, attributes, self.is_synced)?;
         let losses = begun.giving.losses(self.rt.alloc())?;
         let place = begun.beside.place.as_str();
         fs::rename(self.rt, place, self.dir).map_err(|error| causes.of_write(place.len(), error))?;
         self.begun = None;
         let _ = write_out(&mut self.rt.stderr(), losses.as_bytes());
-        Ok(())
+        self.sync_around()
     }
 
     fn give_up(&mut self) {
@@ -284,49 +279,12 @@ impl Begun {
         rt: &HostRuntime,
         causes: &Causes,
         attributes: Attributes,
+        is_synced: bool,
     ) -> Result<(), CopyFault> {
         let giving = &mut self.giving;
         for (made, given) in self.folders.iter().rev() {
-            give_folder(rt, causes, giving, made, *given)?;
+            made.give(rt, causes, giving, *given, is_synced)?;
         }
-        give_folder(rt, causes, giving, &self.beside, attributes)
+        self.beside.give(rt, causes, giving, attributes, is_synced)
     }
-}
-
-/// Gives a directory that was made what it is to have. If anything else is in its place, that gets
-/// nothing and is not opened.
-fn give_folder(
-    rt: &HostRuntime,
-    causes: &Causes,
-    giving: &mut Giving,
-    made: &Made,
-    attributes: Attributes,
-) -> Result<(), CopyFault> {
-    let place = made.place.as_str();
-    if !made.is_there(rt) {
-        return Err(CopyFault::Write);
-    }
-    let folder = File::open(rt, place).map_err(|error| causes.of_write(place.len(), error))?;
-    let metadata = folder
-        .metadata()
-        .map_err(|error| causes.of_write(place.len(), error))?;
-    if id_of(&metadata) != made.id {
-        return Err(CopyFault::Write);
-    }
-    giving
-        .give(&folder, attributes)
-        .map_err(|error| causes.of_write(place.len(), error))
-}
-
-/// Makes a directory that only its owner gets at, whatever the umask removes from its mode.
-fn make_folder(rt: &HostRuntime, place: &str) -> io::Result<FileId> {
-    DirBuilder::new().mode(BEGUN_FOLDER).create(rt, place)?;
-    let metadata = fs::symlink_metadata(rt, place)?;
-    if !metadata.is_dir() {
-        return Err(io::Error::from(ErrorKind::AlreadyExists));
-    }
-    if metadata.mode() % 0o1000 != BEGUN_FOLDER {
-        fs::set_permissions(rt, place, Permissions::from_mode(BEGUN_FOLDER))?;
-    }
-    Ok(id_of(&metadata))
 }

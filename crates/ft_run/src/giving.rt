@@ -10,6 +10,9 @@ use std::{fs, io};
 /// The mode bit S_ISGID. S_ISUID is the only one above it.
 const SET_GROUP_ID: u16 = 0o2000;
 
+/// A directory that belongs to the user who runs this.
+const SELF: &str = "/proc/self/";
+
 /// Gives open files and directories what they are to have, and counts what could not be kept.
 ///
 /// Only the superuser gives owners and groups, as with tar, and if the system refuses one, all else
@@ -39,6 +42,11 @@ impl Giving {
             owners_lost: 0,
             times_lost: 0,
         }
+    }
+
+    /// Returns the same for a directory that exists. Owners are set if the superuser runs this.
+    pub fn into(rt: &HostRuntime, wants_owners: bool) -> Giving {
+        Giving::new(rt, wants_owners, SELF)
     }
 
     /// Gives an open file or directory its mode, its owner and its group, and its S_ISUID and
@@ -101,6 +109,11 @@ impl Giving {
         }
         Ok(lines)
     }
+}
+
+/// Returns whether the superuser runs this, if the system shows processes in `/proc`.
+pub fn is_superuser(rt: &HostRuntime) -> bool {
+    fs::symlink_metadata(rt, SELF).is_ok_and(|of_self| of_self.uid() == 0)
 }
 
 /// Sets the mode of an open file or directory.

@@ -2,7 +2,8 @@
 //! standard input to standard output; `ft dot` draws the last report of which transaction waits
 //! for which among the replies that such a run wrote; `ft jobs FILE` runs the jobs of a plan in
 //! threads, and prints their outcome; `ft load DIR` writes a script that makes what a directory
-//! holds, and `ft save DIR` makes a directory of the tree with which replies end.
+//! holds, and `ft save DIR` makes a directory of the tree with which replies end, or with `--into`
+//! changes one that exists.
 //!
 //! It ends with status 0, even after a help text; with 1 after a fault, which a line `fault: NAME`
 //! on standard error reports; and with 2 if the command line is not valid. It ends with 3 if a line
@@ -11,12 +12,15 @@
 #![tactic(auto)]
 
 mod causes;
+mod disk_maker;
 mod disk_source;
 mod disk_target;
 mod explained;
 mod faults;
 mod giving;
 mod held;
+mod into;
+mod made;
 #[cfg(test)]
 mod of_status;
 mod removal;
@@ -29,10 +33,13 @@ ghost use Rattle.ft_core.specs.Living.{NoneIsLive};
 ghost use Rattle.ft_core.specs.States.{at_base};
 
 use crate::causes::{Causes, Noted};
+use crate::disk_maker::DiskMaker;
 use crate::disk_source::DiskSource;
 use crate::disk_target::DiskTarget;
 use crate::explained::{Explained, say};
 use crate::faults::fault_line;
+use crate::giving::is_superuser;
+use crate::into::{Into, into_status};
 use crate::skipping::SkippingSource;
 use crate::status::{
     dot_status, jobs_status, load_status, play_status, report_fault, report_setup_fault,
@@ -40,9 +47,10 @@ use crate::status::{
 };
 use crate::strictly::play_strictly_status;
 use ft_base::Memory;
-use ft_command::{AskedLimits, Choice, choose};
+use ft_command::{AskedLimits, AskedSave, Choice, choose};
 use ft_copy::{CopyLimits, Source};
 use ft_core::{Core, Limits, Rule};
+use ft_into::Wishes;
 use ft_jobs::{LONGEST_PLAN, Pace};
 use ft_load::needs_of;
 use ft_needs::{limits_for, raised_for};
@@ -88,22 +96,7 @@ fn main(rt: HostRuntime) -> ExitCode {
             },
             limits,
         ),
-        Choice::Save {
-            dir,
-            set_id,
-            no_owners,
-            quiet,
-            limits,
-        } => save_dir(
-            &rt,
-            dir.as_str(),
-            &Saving {
-                set_id,
-                no_owners,
-                quiet,
-            },
-            limits,
-        ),
+        Choice::Save { dir, how, limits } => save_dir(&rt, dir.as_str(), how, limits),
         Choice::Jobs {
             file,
             pace,
@@ -120,6 +113,7 @@ fn main(rt: HostRuntime) -> ExitCode {
                 Pace {
                     turns: pace.turns,
                     threads: pace.threads,
+                    retries: pace.retries,
                 },
                 screen(&rt, quiet),
                 &mut rt.stdout(),
@@ -346,33 +340,75 @@ fn load_to<S: Source, W: Write + Drop>(
     status
 }
 
-/// How a directory is to be saved.
-#[derive(Clone, Copy)]
-struct Saving {
-    set_id: bool,
-    no_owners: bool,
-    quiet: bool,
-}
-
-/// Makes a directory of the tree with which standard input ends. Its files are no larger than is
-/// requested.
-fn save_dir(rt: &HostRuntime, dir: &str, saving: &Saving, asked: AskedLimits) -> u8 {
-    let alloc = rt.alloc();
+/// Makes a directory of the tree with which standard input ends, or changes one that exists. Its
+/// files are no larger than is requested.
+fn save_dir(rt: &HostRuntime, dir: &str, how: AskedSave, asked: AskedLimits) -> u8 {
     let causes = Causes::new();
     let limits = asked.over(Limits::greatest());
     let allowed = CopyLimits {
         file_size: limits.file_size,
         links: limits.links,
-        set_id: saving.set_id,
+        set_id: how.set_id,
     };
-    let target = DiskTarget::new(rt, dir, &causes, !saving.no_owners);
-    let mut target = ShownTarget::new(rt, alloc, target, screen(rt, saving.quiet));
-    let mut replies = Noted::new(rt.stdin(), &causes);
-    let mut errors = Explained::of_replies(rt);
-    let status = save_status(alloc, allowed, &mut replies, &mut target, &mut errors);
+    let status = if how.into {
+        save_into(rt, dir, how, allowed, &causes)
+    } else {
+        save_new(rt, dir, how, allowed, &causes)
+    };
     if status == 1 {
         causes.tell(rt);
     }
+    status
+}
+
+/// Makes a directory of the tree with which standard input ends, and returns the status to end
+/// with.
+fn save_new<'a>(
+    rt: &'a HostRuntime,
+    dir: &'a str,
+    how: AskedSave,
+    allowed: CopyLimits,
+    causes: &'a Causes,
+) -> u8 {
+    let alloc = rt.alloc();
+    let target = DiskTarget::new(rt, dir, causes, !how.no_owners, how.sync);
+    let mut target = ShownTarget::new(rt, alloc, target, screen(rt, how.quiet));
+    let mut replies = Noted::new(rt.stdin(), causes);
+    let mut errors = Explained::of_replies(rt);
+    save_status(alloc, allowed, &mut replies, &mut target, &mut errors)
+}
+
+/// Changes a directory until it holds the tree with which standard input ends. The steps are listed
+/// on standard output. Returns the status to end with.
+fn save_into<'a>(
+    rt: &'a HostRuntime,
+    dir: &'a str,
+    how: AskedSave,
+    allowed: CopyLimits,
+    causes: &'a Causes,
+) -> u8 {
+    let disk = DiskSource::new(rt, dir, causes, true);
+    let maker = DiskMaker::new(rt, dir, causes, !how.no_owners, how.sync);
+    let into = Into {
+        wishes: Wishes {
+            removes: how.remove,
+            owners: !how.no_owners && is_superuser(rt),
+        },
+        is_dry: how.dry_run,
+    };
+    let mut replies = Noted::new(rt.stdin(), causes);
+    let mut list = Noted::new(rt.stdout(), causes);
+    let mut errors = Explained::of_replies(rt);
+    let (_maker, status) = into_status(
+        rt.alloc(),
+        allowed,
+        into,
+        &mut replies,
+        &disk,
+        maker,
+        &mut list,
+        &mut errors,
+    );
     status
 }
 

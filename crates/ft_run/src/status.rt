@@ -187,7 +187,7 @@ pub fn save_status<R: Read, T: Target, E: Write>(
 }
 
 /// Reports why nothing was saved.
-fn report_save_fault<E: Write>(alloc: Global, errors: &mut E, fault: &SaveFault) -> u8
+pub fn report_save_fault<E: Write>(alloc: Global, errors: &mut E, fault: &SaveFault) -> u8
     ensures status { result ≡ 1 }
     ensures line { TellsLine (E.contents errors.old) (E.contents errors.new) (save_line fault.now) }
 {

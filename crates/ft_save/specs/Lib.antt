@@ -3,3 +3,4 @@ pub mod Saves
 -- What the crate keeps true of itself.
 pub mod Reading
 pub mod Trees
+pub mod Sources

@@ -7,4 +7,5 @@ mod reported;
 mod row;
 mod saving;
 
-pub use saving::{SaveFault, save};
+pub use reported::Reported;
+pub use saving::{SaveFault, SavedTree, read_tree, save};

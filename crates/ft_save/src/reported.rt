@@ -13,7 +13,7 @@ use std::alloc::Global;
 
 /// The tree that a report describes.
 #[derive(Clone, Copy)]
-pub(crate) struct Reported<'a> {
+pub struct Reported<'a> {
     pub(crate) index: &'a Index,
 }
 

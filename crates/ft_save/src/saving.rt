@@ -1,10 +1,11 @@
 // From replies to a tree of directories.
-ghost use Rattle.std.specs.Prelude.{OnOk, OnErr, IfErr, IfOk};
+ghost use Rattle.std.specs.Prelude.{◌≡◌, ◌⊎◌, List, OnOk, OnErr, IfErr, IfOk};
 ghost use Rattle.ft_copy.specs.Runs.{Copies};
 ghost use Rattle.ft_save.specs.Saves.{FindsNone, IsLast, IsLeft, Saves, StopsRows, StopsSave};
+ghost use Rattle.ft_save.specs.Sources.{IsSourceOf, IsTreeOf};
 ghost use Rattle.ft_save.specs.Trees.{Tells};
 
-use crate::index::index_of;
+use crate::index::{Index, index_of};
 use crate::reading::tree_told;
 use crate::reported::Reported;
 use crate::row::Row;
@@ -28,6 +29,36 @@ pub enum SaveFault {
     /// The copy was not made.
     #[error("{}", .0.trouble)]
     CopyStop(CopyStop),
+}
+
+/// Reads replies to their end, and returns the tree of the report with which they end.
+pub fn read_tree<R: Read>(alloc: Global, reader: &mut R) -> Result<SavedTree, SaveFault>
+    ensures ok { IfOk result
+        (λ tree. (rows : List Row) × IsLast (R.remaining reader.old) (R.remaining reader.new) rows
+        × IsTreeOf rows tree) }
+    ensures fault { IfErr result
+        (λ fault. FindsNone fault (R.remaining reader.old) (R.remaining reader.new)
+        ⊎ (fault ≡ SaveFault.Replies PlayFault.Memory)) }
+{
+    let rows = last_rows(alloc, reader)?;
+    Ok(SavedTree {
+        index: index_of(alloc, rows)?,
+    })
+}
+
+/// The tree with which replies end.
+#[derive(Drop)]
+pub struct SavedTree {
+    pub(crate) index: Index,
+}
+
+impl SavedTree {
+    /// Returns the tree as the source of a copy.
+    pub fn source(&self) -> Reported<'_>
+        ensures { IsSourceOf self.now result }
+    {
+        Reported { index: &self.index }
+    }
 }
 
 /// Reads replies to their end, and makes the tree of the report with which they end: directories,

@@ -9,7 +9,6 @@ use crate::asked::{Asked, forget_all, push_call};
 use crate::top_level::find_top;
 use ft_base::{Memory, Table};
 use ft_calls::StampedCall;
-use ft_core::laws::reached;
 use ft_core::{Core, Event, TxnId};
 use std::alloc::Global;
 
@@ -17,7 +16,6 @@ use std::alloc::Global;
 /// may be forgotten.
 #[derive(Drop)]
 pub(crate) struct Walk {
-    alloc: Global,
     /// How many of the events that are kept were gone over.
     pub(crate) passed: usize,
     /// The stamps that were undone, of the calls that are listed below.
@@ -35,7 +33,6 @@ impl Walk {
         ensures { IsWalk 0 result [] [] }
     {
         Walk {
-            alloc,
             passed: 0,
             undone: Table::new(alloc),
             under: Table::new(alloc),
@@ -53,7 +50,7 @@ impl Walk {
         ensures next { GivesNext self.old self.new core.now.state events.now result }
         ensures reached { IsReached core.now }
     {
-        reached(core);
+        let alloc = core.alloc();
         loop {
             if let Some(call) = self.take_closing(core) {
                 return Ok(Some(call));
@@ -61,7 +58,7 @@ impl Walk {
             if self.passed >= events.len() {
                 return Ok(None);
             }
-            self.pass(core, events)?;
+            self.pass(alloc, core, events)?;
         }
     }
 
@@ -84,7 +81,7 @@ impl Walk {
     }
 
     /// Goes over the next event. Lack of memory changes nothing.
-    fn pass(&mut self, core: &Core, events: &[Event]) -> Result<(), Memory>
+    fn pass(&mut self, alloc: Global, core: &Core, events: &[Event]) -> Result<(), Memory>
         requires reached { IsReached core.now }
         requires next { self.old.passed < length events.now }
         ensures ok { OnOk result (PassesEvent self.old self.new core.now.state events.now) }
@@ -99,12 +96,12 @@ impl Walk {
                 ..
             } => {
                 let top = find_top(core, *txn).top;
-                let call = call.copy(self.alloc)?;
+                let call = call.copy(alloc)?;
                 let call = StampedCall {
                     stamp: *stamp,
                     call,
                 };
-                push_call(self.alloc, &mut self.under, top, Asked { txn: *txn, call })?;
+                push_call(alloc, &mut self.under, top, Asked { txn: *txn, call })?;
             }
             Event::Undo { stamp } => {
                 self.undone.insert(*stamp, ())?;

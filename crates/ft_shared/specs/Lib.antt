@@ -1,5 +1,6 @@
 -- What callers cite.
 pub mod Guarded
+pub mod Victims
 pub mod Origins
 pub mod Publishing
 pub mod Opening

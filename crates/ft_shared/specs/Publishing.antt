@@ -1,5 +1,5 @@
 -- The published list, and the calls that the writer of the views was given.
-use Rattle.std.specs.Prelude.{◌≡◌, ◌⊎◌, ℕ, Bool, true, false, List, [], ◌∷◌, ◌++◌, drop, fold, refl, Option, Some, None, Result, OnOk, OnErr}
+use Rattle.std.specs.Prelude.{◌≡◌, ◌⊎◌, ℕ, Bool, true, false, List, [], ◌∷◌, ◌++◌, drop, fold, refl, Option, Some, None, Result, OnOk, OnErr, All}
 use mathlib.Core.List.{IsPrefix}
 use Rattle.std.specs.Coded.{Coded, code_by, coded×, coded_ℕ, coded_list, coded_option}
 use Rattle.logbook.specs.Pages.{Book}
@@ -16,8 +16,9 @@ use Rattle.ft_core.specs.declared.request.Event.{Event}
 use Rattle.ft_core.specs.contracts.request.Event as event
 use Rattle.ft_serial.specs.CommittedCalls.{GoneOver}
 use Rattle.ft_serial.specs.Serials.{committed_in}
-use Rattle.ft_record.specs.Going.{GoesOn}
+use Rattle.ft_shared.specs.Guarded.{IsOfCoreFrom}
 use Rattle.ft_shared.specs.Origins.{Origin}
+use Rattle.ft_shared.specs.Victims.{WasVictim}
 
 -- a list of calls
 abbrev pub Calls : Type 0
@@ -93,10 +94,12 @@ abbrev pub HasPublisher : Bool → State → Option ℕ → Option Publishing �
 HasPublisher shown core forgotten None = shown ≡ false
 HasPublisher shown core forgotten (Some p) = (shown ≡ true) × IsPublisherOf core forgotten p
 
--- The value behind the lock goes on from what was shared.
-pub record IsBehind (origin : Origin) (core : State) (forgotten : Option ℕ) (publisher : Option Publishing) : Type 0 where
-  pub goes_on : GoesOn origin.from core
+-- The value behind the lock is a core that goes on from what was shared.
+pub record IsBehind (origin : Origin) (core : State) (forgotten : Option ℕ) (publisher : Option Publishing) (victims : List ℕ) : Type 0 where
+  pub from : IsOfCoreFrom origin.from core
   pub views : HasPublisher origin.shown core forgotten publisher
+  -- each of these was aborted to break a deadlock
+  pub victims_are : All (WasVictim core) victims
 
 -- why nothing was published: NoViews if there are no views, else Memory
 abbrev pub fault_of_publish : Bool → Fault

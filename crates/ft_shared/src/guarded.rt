@@ -1,5 +1,5 @@
 // The value behind the lock.
-ghost use Rattle.std.specs.Prelude.{◌≡◌, true, length, cond, is_some, Some, None, IfSome, IfOk, IfErr, IsTrue, OnOk, OnErr};
+ghost use Rattle.std.specs.Prelude.{◌≡◌, true, length, cond, is_some, Some, None, IfSome, IfOk, IfErr, IsTrue, OnOk, OnErr, All};
 ghost use mathlib.Core.List.{IsPrefix};
 ghost use Rattle.ft_core.specs.declared.request.Request.TheVariants.{Begin, Sub, Ask, Retry, Drop as DropAsk, Commit};
 ghost use Rattle.ft_core.specs.declared.request.Answer.TheVariants.{Txn, Dropped, Committed, Aborted, Undone};
@@ -7,13 +7,15 @@ ghost use Rattle.ft_core.specs.Reached.{IsReached};
 ghost use Rattle.ft_core.specs.Steps.{IsStep, exact_rule, answer_with, outcome_answer};
 ghost use Rattle.ft_record.specs.Going.{GoesOn};
 ghost use Rattle.ft_serial.specs.Serials.{committed_calls};
-ghost use Rattle.ft_shared.specs.Guarded.{IsAborted, IsUndone};
+ghost use Rattle.ft_shared.specs.Guarded.{IsOfCoreFrom, IsAborted, IsUndone};
 ghost use Rattle.ft_shared.specs.Origins.{without_views};
 ghost use Rattle.ft_shared.specs.Publishing.{IsPublisherOf, fault_of_publish};
+ghost use Rattle.ft_shared.specs.Victims.{Breaks, WasVictim};
 
 use crate::publisher::Publisher;
 use crate::shareable::Shareable;
 use crate::sharing::{Sharing, ViewsOf};
+use crate::victim::{is_member, victim_of};
 use ft_calls::Call;
 use ft_core::laws::reached;
 use ft_core::{Core, Fault, Outcome, TxnId};
@@ -29,6 +31,8 @@ use std::sync::Wait;
 pub struct Guarded<J: Sharing, C: Shareable> {
     core: C,
     publisher: Option<Publisher<ViewsOf<J>>>,
+    // The transactions that were aborted to break deadlocks.
+    victims: Vec<TxnId>,
 }
 
 impl<J: Sharing, C: Shareable> Model for Guarded<J, C> {
@@ -45,7 +49,7 @@ impl<J: Sharing, C: Shareable> Model for Guarded<J, C> {
     } };
 
     ghost invariant = { λ a. IsBehind J.origin (C.stored a.core).state (C.forgotten a.core)
-        a.publisher };
+        a.publisher a.victims.items };
 }
 
 impl<J: Sharing, C: Shareable> Guarded<J, C> {
@@ -56,6 +60,7 @@ impl<J: Sharing, C: Shareable> Guarded<J, C> {
         ensures published { result.published ≡ None }
     {
         Guarded {
+            victims: Vec::new(core.core().alloc()),
             core,
             publisher: None,
         }
@@ -70,6 +75,7 @@ impl<J: Sharing, C: Shareable> Guarded<J, C> {
         ensures published { result.published ≡ Some publisher.published }
     {
         Guarded {
+            victims: Vec::new(core.core().alloc()),
             core,
             publisher: Some(publisher),
         }
@@ -77,7 +83,8 @@ impl<J: Sharing, C: Shareable> Guarded<J, C> {
 
     /// The core.
     pub fn core(&self) -> &Core
-        ensures { result.now ≡ self.now.core }
+        ensures core { result.now ≡ self.now.core }
+        ensures from { IsOfCoreFrom J.origin.from self.now.core.state }
     {
         self.core.core()
     }
@@ -104,6 +111,7 @@ impl<J: Sharing, C: Shareable> Guarded<J, C> {
         ensures step { IsStep exact_rule self.old.core.state Begin (answer_with Txn result)
             self.new.core.state }
         ensures published { self.new.published ≡ self.old.published }
+        ensures from { IsOfCoreFrom J.origin.from self.old.core.state }
     {
         self.core.begin()
     }
@@ -113,6 +121,7 @@ impl<J: Sharing, C: Shareable> Guarded<J, C> {
         ensures step { IsStep exact_rule self.old.core.state (Sub parent) (answer_with Txn result)
             self.new.core.state }
         ensures published { self.new.published ≡ self.old.published }
+        ensures from { IsOfCoreFrom J.origin.from self.old.core.state }
     {
         self.core.sub(parent)
     }
@@ -122,6 +131,7 @@ impl<J: Sharing, C: Shareable> Guarded<J, C> {
         ensures step { IsStep exact_rule self.old.core.state (Ask txn call)
             (answer_with outcome_answer result) self.new.core.state }
         ensures published { self.new.published ≡ self.old.published }
+        ensures from { IsOfCoreFrom J.origin.from self.old.core.state }
     {
         self.core.ask(txn, call)
     }
@@ -131,6 +141,7 @@ impl<J: Sharing, C: Shareable> Guarded<J, C> {
         ensures step { IsStep exact_rule self.old.core.state (Ask txn call.now)
             (answer_with outcome_answer result) self.new.core.state }
         ensures published { self.new.published ≡ self.old.published }
+        ensures from { IsOfCoreFrom J.origin.from self.old.core.state }
     {
         self.core.ask_copy(txn, call)
     }
@@ -140,6 +151,7 @@ impl<J: Sharing, C: Shareable> Guarded<J, C> {
         ensures step { IsStep exact_rule self.old.core.state (Retry txn)
             (answer_with outcome_answer result) self.new.core.state }
         ensures published { self.new.published ≡ self.old.published }
+        ensures from { IsOfCoreFrom J.origin.from self.old.core.state }
     {
         self.core.retry(txn)
     }
@@ -150,6 +162,7 @@ impl<J: Sharing, C: Shareable> Guarded<J, C> {
             self.old.core.state (DropAsk txn) (answer_with (λ done. Dropped) result)
             self.new.core.state }
         ensures published { self.new.published ≡ self.old.published }
+        ensures from { IsOfCoreFrom J.origin.from self.old.core.state }
     {
         self.core.drop_ask(txn)
     }
@@ -160,6 +173,7 @@ impl<J: Sharing, C: Shareable> Guarded<J, C> {
             self.old.core.state (Commit txn) (answer_with (λ done. Committed) result)
             self.new.core.state }
         ensures published { self.new.published ≡ self.old.published }
+        ensures from { IsOfCoreFrom J.origin.from self.old.core.state }
     {
         self.core.commit(txn)?;
         self.core.sweep();
@@ -171,6 +185,7 @@ impl<J: Sharing, C: Shareable> Guarded<J, C> {
         ensures step { IsAborted self.old.core.state txn (answer_with Aborted result)
             self.new.core.state }
         ensures published { self.new.published ≡ self.old.published }
+        ensures from { IsOfCoreFrom J.origin.from self.old.core.state }
     {
         let count = self.core.abort(txn)?;
         self.core.sweep();
@@ -182,8 +197,40 @@ impl<J: Sharing, C: Shareable> Guarded<J, C> {
         ensures step { IsUndone self.old.core.state txn (answer_with Undone result)
             self.new.core.state }
         ensures published { self.new.published ≡ self.old.published }
+        ensures from { IsOfCoreFrom J.origin.from self.old.core.state }
     {
         self.core.undo_call(txn)
+    }
+
+    /// Aborts the victim on a cycle of waits, if there is a cycle, sweeps what it released, and
+    /// returns it. It is among the victims from then on.
+    ///
+    /// Refuses Memory.
+    pub fn break_deadlock(&mut self) -> Result<Option<TxnId>, Fault>
+        ensures broken { IfOk result
+            (λ victim. Breaks victim self.old.core.state self.new.core.state) }
+        ensures same { OnErr result (self.new.core.state ≡ self.old.core.state) }
+        ensures published { self.new.published ≡ self.old.published }
+        ensures from { IsOfCoreFrom J.origin.from self.old.core.state }
+    {
+        let Some(victim) = victim_of(self.core.core())? else {
+            return Ok(None);
+        };
+        if self.victims.try_reserve(1).is_err() {
+            return Err(Fault::Memory);
+        }
+        self.core.abort(victim)?;
+        self.core.sweep();
+        let _ = self.victims.push(victim);
+        Ok(Some(victim))
+    }
+
+    /// Returns whether a transaction was aborted to break a deadlock.
+    pub fn is_victim(&self, txn: TxnId) -> bool
+        ensures victim { IsTrue result → WasVictim self.now.core.state txn }
+        ensures from { IsOfCoreFrom J.origin.from self.now.core.state }
+    {
+        is_member(self.victims.as_slice(), txn)
     }
 
     /// Publishes the whole committed part of the core, and returns how many calls that has, with
@@ -192,6 +239,7 @@ impl<J: Sharing, C: Shareable> Guarded<J, C> {
     /// Refuses NoViews if the core has none, and then Memory; then readers see what they saw.
     pub fn publish<R: Wait>(&mut self, rt: &R) -> Result<(u64, Receipt<ViewsOf<J>>), Fault>
         ensures core { self.new.core ≡ self.old.core }
+        ensures from { IsOfCoreFrom J.origin.from self.old.core.state }
         ensures shown { OnOk result (IsTrue J.origin.shown) }
         ensures whole { OnOk result (self.new.published
             ≡ Some (committed_calls self.old.core.state)) }
@@ -208,7 +256,6 @@ impl<J: Sharing, C: Shareable> Guarded<J, C> {
         let Some(publisher) = &mut self.publisher else {
             return Err(Fault::NoViews);
         };
-        reached(self.core.core());
         let told = publisher.publish(rt, self.core.core(), self.core.events())?;
         if self.core.forget() {
             publisher.forget(self.core.core());
@@ -216,16 +263,21 @@ impl<J: Sharing, C: Shareable> Guarded<J, C> {
         Ok(told)
     }
 
-    /// Ends the views, and gives the core back.
-    pub(crate) fn end<R: Wait>(self, rt: &R) -> C
-        ensures core { C.stored result ≡ self.core }
-        ensures goes_on { GoesOn J.origin.from (C.stored result).state }
+    /// Ends the views, and gives the core back, with the victims of deadlocks.
+    pub(crate) fn end<R: Wait>(self, rt: &R) -> (C, Vec<TxnId>)
+        ensures core { C.stored result.0 ≡ self.core }
+        ensures goes_on { GoesOn J.origin.from (C.stored result.0).state }
+        ensures victims { All (WasVictim (C.stored result.0).state) result.1.items }
     {
-        let Guarded { core, publisher } = self;
+        let Guarded {
+            core,
+            publisher,
+            victims,
+        } = self;
         match publisher {
             Some(publisher) => publisher.end(rt),
             None => {}
         }
-        core
+        (core, victims)
     }
 }

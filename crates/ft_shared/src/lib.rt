@@ -10,6 +10,7 @@ mod publisher;
 mod shareable;
 mod shared;
 mod sharing;
+mod victim;
 
 pub use manager::Manager;
 pub use opened::{Cause, Opened, ViewsRefused, with_views};

@@ -1,6 +1,7 @@
 // The requests of job threads to the transactions that they share.
-ghost use Rattle.std.specs.Prelude.{◌≤◌};
+ghost use Rattle.std.specs.Prelude.{◌≤◌, All};
 ghost use Rattle.ft_core.specs.States.{State};
+ghost use Rattle.ft_shared.specs.Victims.{WasVictim};
 
 use crate::shared::Shared;
 use crate::sharing::Sharing;
@@ -13,7 +14,8 @@ use std::time::Clock;
 /// The requests of job threads to the transactions that they share.
 ///
 /// No answer is promised to be true: the caller that takes a manager must find out for itself, when
-/// it has the core back. A manager may promise something of that core (`hands_back`).
+/// it has the core back. A manager may promise something of that core (`hands_back`). Only its list
+/// of victims is promised: each was aborted to break a deadlock.
 pub trait Manager: Sync {
     // A fact of the state of the core that is handed back. By default nothing is said.
     ghost hands_back: { State → Type 0 } = { λ _. Unit {0} };
@@ -41,9 +43,17 @@ pub trait Manager: Sync {
     /// undoes.
     fn abort<R: Wait>(&self, rt: &R, txn: TxnId) -> Result<u64, Fault>;
 
-    /// Ends the manager, and gives the core back.
-    fn into_core<R: Wait>(self, rt: &R) -> Recorded
-        ensures { hands_back result.state };
+    /// Breaks a cycle of waits, if there is one, by the abort of one transaction on it, and returns
+    /// that. The transaction is a victim from then on.
+    fn break_deadlock<R: Wait>(&self, rt: &R) -> Result<Option<TxnId>, Fault>;
+
+    /// Returns whether a transaction is a victim.
+    fn is_victim<R: Wait>(&self, rt: &R, txn: TxnId) -> bool;
+
+    /// Ends the manager, and gives the core back, with the victims.
+    fn into_parts<R: Wait>(self, rt: &R) -> (Recorded, Vec<TxnId>)
+        ensures core { hands_back result.0.state }
+        ensures victims { All (WasVictim result.0.state) result.1.items };
 }
 
 impl<J: Sharing> Manager for Shared<J, Recorded> {
@@ -78,7 +88,15 @@ impl<J: Sharing> Manager for Shared<J, Recorded> {
         self.abort(rt, txn)
     }
 
-    fn into_core<R: Wait>(self, rt: &R) -> Recorded {
-        self.into_core(rt)
+    fn break_deadlock<R: Wait>(&self, rt: &R) -> Result<Option<TxnId>, Fault> {
+        self.break_deadlock(rt)
+    }
+
+    fn is_victim<R: Wait>(&self, rt: &R, txn: TxnId) -> bool {
+        self.is_victim(rt, txn)
+    }
+
+    fn into_parts<R: Wait>(self, rt: &R) -> (Recorded, Vec<TxnId>) {
+        self.into_parts(rt)
     }
 }

@@ -1,6 +1,5 @@
 // A core behind a lock.
-ghost use Rattle.std.specs.Prelude.{◌≡◌, ◌≤◌, length, IfOk, IfErr, IsTrue, OnOk};
-ghost use Rattle.std.specs.Sync.Mutex.{mutex_guard_value};
+ghost use Rattle.std.specs.Prelude.{◌≡◌, ◌≤◌, length, IfOk, IfErr, IsTrue, OnOk, All};
 ghost use Rattle.ft_core.specs.declared.fault.Fault.TheVariants.{Memory as MemoryFault, Live as LiveFault};
 ghost use Rattle.ft_core.specs.declared.request.Request.TheVariants.{Begin, Sub, Ask, Retry, Drop as DropAsk, Commit, Abort, Undo};
 ghost use Rattle.ft_core.specs.declared.request.Answer.TheVariants.{Txn, Dropped, Committed, Aborted, Undone};
@@ -8,12 +7,12 @@ ghost use Rattle.ft_core.specs.Living.{SomeIsLive, NoneIsLive};
 ghost use Rattle.ft_core.specs.Steps.{IsStep, exact_rule, answer_with, outcome_answer};
 ghost use Rattle.ft_waits.specs.Edges.{AreEdgesOf};
 ghost use Rattle.ft_waits.specs.Waits.{IsVerdict};
-ghost use Rattle.ft_core.specs.Reached.{IsReached};
 ghost use Rattle.ft_record.specs.Going.{GoesOn};
 ghost use Rattle.ft_serial.specs.Serials.{committed_calls};
 ghost use Rattle.ft_shared.specs.Guarded.{OfCoreFrom, InCoreFrom, IsAborted, IsUndone};
 ghost use Rattle.ft_shared.specs.Origins.{without_views};
 ghost use Rattle.ft_shared.specs.Publishing.{fault_of_publish};
+ghost use Rattle.ft_shared.specs.Victims.{Breaks, WasVictim};
 
 use crate::guarded::Guarded;
 use crate::shareable::Shareable;
@@ -94,7 +93,7 @@ impl<J: Sharing, C: Shareable> Shared<J, C> {
         ensures some_core { InCoreFrom
             J.origin.from (λ old new. IsStep exact_rule old Begin (answer_with Txn result) new) }
     {
-        let mut behind = self.held(rt);
+        let mut behind = self.behind.lock(rt);
         let answer = behind.begin();
         MutexGuard::unlock(behind);
         answer
@@ -108,7 +107,7 @@ impl<J: Sharing, C: Shareable> Shared<J, C> {
             J.origin.from (λ old new. IsStep exact_rule old (Sub parent) (answer_with Txn result)
             new) }
     {
-        let mut behind = self.held(rt);
+        let mut behind = self.behind.lock(rt);
         let answer = behind.sub(parent);
         MutexGuard::unlock(behind);
         answer
@@ -122,7 +121,7 @@ impl<J: Sharing, C: Shareable> Shared<J, C> {
             J.origin.from (λ old new. IsStep exact_rule old (Ask txn call)
             (answer_with outcome_answer result) new) }
     {
-        let mut behind = self.held(rt);
+        let mut behind = self.behind.lock(rt);
         let answer = behind.ask(txn, call);
         MutexGuard::unlock(behind);
         answer
@@ -177,7 +176,7 @@ impl<J: Sharing, C: Shareable> Shared<J, C> {
             J.origin.from (λ old new. IsStep exact_rule old (Ask txn call.now)
             (answer_with outcome_answer result) new) }
     {
-        let mut behind = self.held(rt);
+        let mut behind = self.behind.lock(rt);
         let answer = behind.ask_copy(txn, call);
         MutexGuard::unlock(behind);
         answer
@@ -206,7 +205,7 @@ impl<J: Sharing, C: Shareable> Shared<J, C> {
             J.origin.from (λ old new. IsStep exact_rule old (Retry txn)
             (answer_with outcome_answer result) new) }
     {
-        let mut behind = self.held(rt);
+        let mut behind = self.behind.lock(rt);
         let answer = behind.retry(txn);
         MutexGuard::unlock(behind);
         answer
@@ -220,7 +219,7 @@ impl<J: Sharing, C: Shareable> Shared<J, C> {
             J.origin.from (λ old new. IsStep exact_rule old (DropAsk txn)
             (answer_with (λ done. Dropped) result) new) }
     {
-        let mut behind = self.held(rt);
+        let mut behind = self.behind.lock(rt);
         let answer = behind.drop_ask(txn);
         MutexGuard::unlock(behind);
         answer
@@ -236,7 +235,7 @@ impl<J: Sharing, C: Shareable> Shared<J, C> {
             J.origin.from (λ old new. IsStep exact_rule old (Commit txn)
             (answer_with (λ done. Committed) result) new) }
     {
-        let mut behind = self.held(rt);
+        let mut behind = self.behind.lock(rt);
         let answer = behind.commit(txn);
         MutexGuard::unlock(behind);
         if answer.is_ok() {
@@ -253,7 +252,7 @@ impl<J: Sharing, C: Shareable> Shared<J, C> {
         ensures some_core { InCoreFrom
             J.origin.from (λ old new. IsAborted old txn (answer_with Aborted result) new) }
     {
-        let mut behind = self.held(rt);
+        let mut behind = self.behind.lock(rt);
         let answer = behind.abort(txn);
         MutexGuard::unlock(behind);
         if answer.is_ok() {
@@ -271,7 +270,7 @@ impl<J: Sharing, C: Shareable> Shared<J, C> {
         ensures some_core { InCoreFrom
             J.origin.from (λ old new. IsUndone old txn (answer_with Undone result) new) }
     {
-        let mut behind = self.held(rt);
+        let mut behind = self.behind.lock(rt);
         let answer = behind.undo_call(txn);
         MutexGuard::unlock(behind);
         answer
@@ -296,10 +295,41 @@ impl<J: Sharing, C: Shareable> Shared<J, C> {
         ensures { IfOk result (λ edges. OfCoreFrom
             J.origin.from (λ state. AreEdgesOf state edges.items)) }
     {
-        let behind = self.held(rt);
+        let behind = self.behind.lock(rt);
         let edges = edges(behind.core());
         MutexGuard::unlock(behind);
         edges
+    }
+
+    /// Breaks a cycle of waits, if there is one, by the abort of one transaction on it, and returns
+    /// that. If there are several cycles, one of them is broken.
+    ///
+    /// The youngest on it is aborted of those that wait for a lock, and for a lock of which another
+    /// one on it waits; if there is none of these, the youngest of all. The cycle is found and the
+    /// abort made in one holding of the lock. Refuses Memory.
+    pub fn break_deadlock<R: Wait>(&self, rt: &R) -> Result<Option<TxnId>, Fault>
+        ensures some_core { IfOk result
+            (λ victim. InCoreFrom J.origin.from (λ old new. Breaks victim old new)) }
+    {
+        let mut behind = self.behind.lock(rt);
+        let answer = behind.break_deadlock();
+        MutexGuard::unlock(behind);
+        let is_broken = matches!(answer, Ok(Some(_)));
+        if is_broken {
+            self.ended.notify_all();
+        }
+        answer
+    }
+
+    /// Returns whether a transaction was aborted by `break_deadlock`.
+    pub fn is_victim<R: Wait>(&self, rt: &R, txn: TxnId) -> bool
+        ensures { IsTrue result
+            → OfCoreFrom J.origin.from (λ state. WasVictim state txn) }
+    {
+        let behind = self.behind.lock(rt);
+        let is = behind.is_victim(txn);
+        MutexGuard::unlock(behind);
+        is
     }
 
     /// Publishes the committed calls that are not published yet, and returns how many are published
@@ -316,7 +346,7 @@ impl<J: Sharing, C: Shareable> Shared<J, C> {
         ensures shown { OnOk result (IsTrue J.origin.shown) }
         ensures fault { IfErr result (λ fault. fault ≡ fault_of_publish J.origin.shown) }
     {
-        let mut behind = self.held(rt);
+        let mut behind = self.behind.lock(rt);
         let answer = behind.publish(rt);
         MutexGuard::unlock(behind);
         answer
@@ -327,23 +357,22 @@ impl<J: Sharing, C: Shareable> Shared<J, C> {
     pub fn into_core<R: Wait>(self, rt: &R) -> C
         ensures { GoesOn J.origin.from (C.stored result).state }
     {
+        let (core, _) = self.into_parts(rt);
+        core
+    }
+
+    /// Ends the sharing as `into_core` does, and gives back the core and the transactions that
+    /// `break_deadlock` aborted, in that order.
+    pub fn into_parts<R: Wait>(self, rt: &R) -> (C, Vec<TxnId>)
+        ensures core { GoesOn J.origin.from (C.stored result.0).state }
+        ensures victims { All (WasVictim (C.stored result.0).state) result.1.items }
+    {
         let Shared {
             behind,
             alloc: _,
             ended: _,
         } = self;
         behind.into_inner().end(rt)
-    }
-
-    /// Gets the lock. The history of the core behind it is legal, from a sound base, and goes on
-    /// from what was shared.
-    fn held<R: Wait>(&self, rt: &R) -> MutexGuard<'_, Guarded<J, C>>
-        ensures reached { IsReached (mutex_guard_value result).core }
-        ensures goes_on { GoesOn J.origin.from (mutex_guard_value result).core.state }
-    {
-        let behind = self.behind.lock(rt);
-        behind.stands();
-        behind
     }
 }
 

@@ -17,6 +17,7 @@ use std::thread::Threads;
 use std::time::{Clock, Duration, Instant};
 use test_scripts::{is_deadlock, new_shared};
 
+/// Returns a call that looks at the directory.
 fn stat_call(alloc: Global) -> Result<Call, Fail> {
     let path = FilePath::new(alloc, b"/a".as_slice())?;
     Ok(Call::Stat { path })
@@ -65,6 +66,7 @@ fn tells_crossing<R: Wait>(rt: &R, alloc: Global, shared: &Shared) -> Result<boo
     tells_deadlock(rt, shared)
 }
 
+/// Returns whether two transactions that wait for each other are reported as a cycle.
 fn waits_in_circle<R: Wait>(rt: &R, alloc: Global) -> Result<bool, Fail> {
     let shared = with_directory(rt, alloc)?;
     let is_told = tells_crossing(rt, alloc, &shared);
@@ -102,6 +104,7 @@ fn goes_on<R: Threads + Wait + Clock + Sync>(rt: &R, shared: &Shared, call: &Cal
     }
 }
 
+/// Returns whether a waiting call goes on when another thread ends the transaction that blocks it.
 fn lets_go_on<R: Threads + Wait + Clock + Sync>(rt: &R, alloc: Global) -> Result<bool, Fail> {
     let call = stat_call(alloc)?;
     let shared = with_directory(rt, alloc)?;
@@ -125,6 +128,7 @@ fn waits_in_vain<R: Wait + Clock>(rt: &R, shared: &Shared, call: &Call) -> bool 
     is_waiting && shared.drop_ask(rt, TxnId(2)) == Ok(())
 }
 
+/// Returns whether a call that stays blocked waits until its turns are used up.
 fn uses_turns_up<R: Wait + Clock>(rt: &R, alloc: Global) -> Result<bool, Fail> {
     let call = stat_call(alloc)?;
     let shared = with_directory(rt, alloc)?;
@@ -236,7 +240,7 @@ fn managed<R: Wait + Clock, M: Manager>(
     call: &Call,
 ) -> Result<Recorded, Fault> {
     let done = manage(rt, &manager, call);
-    let core = manager.into_core(rt);
+    let (core, _) = manager.into_parts(rt);
     done?;
     Ok(core)
 }
@@ -261,6 +265,7 @@ fn is_handed_back(refused: &Refused) -> bool {
     refused.fault == Fault::Live && refused.core.history().len() == 1
 }
 
+/// Returns whether a core with a live transaction is refused, and handed back.
 fn is_refused<J: Sharing, R: Wait>(rt: &R, core: Recorded) -> bool
     requires { without_views core.state ≡ J.origin }
 {

@@ -5,6 +5,7 @@ use ft_waits::{Edge, EdgeKind, Verdict, judge};
 use std::alloc::{AllocError, Global};
 use std::test::Fail;
 
+/// Returns an edge for a lock.
 fn lock(from: u64, to: u64) -> Edge {
     Edge {
         from: TxnId(from),
@@ -13,6 +14,7 @@ fn lock(from: u64, to: u64) -> Edge {
     }
 }
 
+/// Returns an edge to a child.
 fn child(from: u64, to: u64) -> Edge {
     Edge {
         kind: EdgeKind::Child,
@@ -20,6 +22,7 @@ fn child(from: u64, to: u64) -> Edge {
     }
 }
 
+/// Returns whether the verdict on these edges is this cycle.
 fn is_cycle(alloc: Global, edges: &[Edge], wanted: &[u64]) -> Result<bool, Memory> {
     match &judge(alloc, edges)? {
         Verdict::Cycle(members) => Ok(
@@ -33,6 +36,7 @@ fn is_cycle(alloc: Global, edges: &[Edge], wanted: &[u64]) -> Result<bool, Memor
     }
 }
 
+/// Returns whether the verdict on these edges is these ranks.
 fn is_ranked(alloc: Global, edges: &[Edge], wanted: &[(TxnId, u64)]) -> Result<bool, Memory> {
     match &judge(alloc, edges)? {
         Verdict::Cycle(_) => Ok(false),

@@ -121,7 +121,7 @@ fn facts_of(number: u64, links: u64, bytes: &[u8]) -> FileFacts {
     }
 }
 
-/// What distinguishes a directory from the one that comes in its place.
+/// Returns what distinguishes a directory from the one that comes in its place.
 fn folder_id(number: u64) -> FileId {
     FileId { device: 2, number }
 }
@@ -254,6 +254,7 @@ enum What {
 }
 
 impl FakeTarget {
+    /// Returns a target on which nothing is made yet, and which fails after so many calls.
     pub fn new(alloc: Global, turns: u64) -> FakeTarget {
         FakeTarget {
             alloc,
@@ -321,7 +322,7 @@ impl FakeTarget {
             .is_some_and(|held| held.as_slice() == bytes)
     }
 
-    /// What was made at a path.
+    /// Returns what was made at a path.
     fn at(&self, path: &[u8]) -> Option<&Made> {
         self.made.iter().find(|made| made.path.as_slice() == path)
     }
@@ -432,6 +433,7 @@ pub struct FakeClock {
 }
 
 impl FakeClock {
+    /// Returns a clock that goes on by this step each time it is read.
     pub fn new(step: u64) -> FakeClock {
         FakeClock {
             step,

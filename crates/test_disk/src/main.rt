@@ -5,6 +5,8 @@
 #[cfg(test)]
 mod fakes;
 #[cfg(test)]
+mod of_into;
+#[cfg(test)]
 mod of_load;
 #[cfg(test)]
 mod of_save;

@@ -38,10 +38,12 @@ fn is_play_within(alloc: Global, words: &[&str], wanted: Limits) -> bool {
     limits_of(alloc, words) == Some(wanted)
 }
 
+/// Returns whether the words request a script by the default rule.
 fn is_play(alloc: Global, words: &[&str]) -> bool {
     is_play_by(alloc, words, Rule::Profile)
 }
 
+/// Returns whether the words request a drawing.
 fn is_dot(alloc: Global, words: &[&str]) -> bool {
     matches!(choose(alloc, words), Choice::Dot)
 }
@@ -97,17 +99,34 @@ fn is_jobs_in(alloc: Global, words: &[&str], most: u64) -> bool {
     matches!(choose(alloc, words), Choice::Jobs { pace, .. } if pace.threads == most)
 }
 
+/// Returns whether they request so many retries at most, or no number of them.
+fn is_jobs_again(alloc: Global, words: &[&str], most: Option<u64>) -> bool {
+    matches!(choose(alloc, words), Choice::Jobs { pace, .. } if pace.retries == most)
+}
 /// Returns whether they request this directory to be made, to keep set-id bits, to set no owners
 /// and to be quiet or not.
 fn is_save(alloc: Global, words: &[&str], folder: &str, asked: (bool, bool, bool)) -> bool {
     match choose(alloc, words) {
         Choice::Save {
             dir,
-            set_id,
-            no_owners,
-            quiet,
+            how,
             limits: _,
-        } => dir.as_str() == folder && (set_id, no_owners, quiet) == asked,
+        } => {
+            dir.as_str() == folder && (how.set_id, how.no_owners, how.quiet) == asked && !how.into
+        }
+        _ => false,
+    }
+}
+
+/// Returns whether they request a change of this directory, with these flags: to remove, to change
+/// nothing, and to survive a power failure.
+fn is_into(alloc: Global, words: &[&str], folder: &str, asked: (bool, bool, bool)) -> bool {
+    match choose(alloc, words) {
+        Choice::Save {
+            dir,
+            how,
+            limits: _,
+        } => { dir.as_str() == folder && (how.remove, how.dry_run, how.sync) == asked && how.into }
         _ => false,
     }
 }
@@ -209,6 +228,30 @@ fn choices_of_save(rt: HostRuntime) -> Result<(), Fail> {
 }
 
 #[test]
+fn choices_of_save_into(rt: HostRuntime) -> Result<(), Fail> {
+    let alloc = rt.alloc();
+    assert!(rt;
+        is_into(
+            alloc,
+            &["save", "--into", "out"],
+            "out",
+            (false, false, false)
+        )
+    );
+    assert!(rt;
+        is_into(
+            alloc,
+            &["save", "--into", "--remove", "--dry-run", "--sync", "out"],
+            "out",
+            (true, true, true)
+        )
+    );
+    assert!(rt; is_usage(alloc, &["save", "--remove", "out"], "need '--into'"));
+    assert!(rt; is_usage(alloc, &["save", "--dry-run", "out"], "need '--into'"));
+    Ok(())
+}
+
+#[test]
 fn choices(rt: HostRuntime) -> Result<(), Fail> {
     let alloc = rt.alloc();
     assert!(rt; is_play(alloc, &["play"]));
@@ -216,6 +259,14 @@ fn choices(rt: HostRuntime) -> Result<(), Fail> {
     assert!(rt; is_dot(alloc, &["dot"]));
     assert!(rt; is_usage(alloc, &[], "Usage: ft <COMMAND>"));
     assert!(rt; is_usage(alloc, &["dance"], "unrecognized subcommand 'dance'"));
+    assert!(rt;
+        is_usage(
+            alloc,
+            &["dance"],
+            "[subcommands: play, dot, load, save, jobs, help]"
+        )
+    );
+    assert!(rt; is_usage(alloc, &["play", "--dance"], "Usage: ft play [OPTIONS]"));
     assert!(rt; is_usage(alloc, &["play", "now"], "'now'"));
     assert!(rt;
         is_help(
@@ -259,6 +310,16 @@ fn choices_of_jobs(rt: HostRuntime) -> Result<(), Fail> {
     );
     assert!(rt; is_usage(alloc, &["jobs"], "<FILE>"));
     assert!(rt; is_help(alloc, &["jobs", "--help"], "[default: 10000]"));
+    Ok(())
+}
+
+#[test]
+fn choices_of_retries(rt: HostRuntime) -> Result<(), Fail> {
+    let alloc = rt.alloc();
+    assert!(rt; is_jobs_again(alloc, &["jobs", "p"], None));
+    assert!(rt; is_jobs_again(alloc, &["jobs", "p", "--retries", "0"], Some(0)));
+    assert!(rt; is_jobs_again(alloc, &["jobs", "--retries=1000000", "p"], Some(1_000_000)));
+    assert!(rt; is_usage(alloc, &["jobs", "p", "--retries", "x"], "retries"));
     Ok(())
 }
 

@@ -159,6 +159,40 @@ fn crosses<R: Threads + Wait + Clock + Sync>(rt: &R, alloc: Global) -> Result<bo
     Ok(have_crossed && has_waited && gate.met.load(Ordering::SeqCst) == 2)
 }
 
+/// The outcome of two jobs that wait for each other, if one of them is begun again.
+fn crosses_again<R: Threads + Wait + Clock + Sync>(
+    rt: &R,
+    alloc: Global,
+) -> Result<JobsOutcome, Fail> {
+    let plan = Plan::read(alloc, CROSSED)?;
+    let gate = Meeting::up_to(1);
+    let pace = Pace {
+        turns: MEETING_TURNS,
+        threads: 2,
+        retries: Some(10),
+    };
+    Ok(run_jobs(rt, alloc, &plan, new_shared(alloc)?, &gate, pace)?)
+}
+
+/// Returns whether both jobs have committed, and each earlier try was aborted after its mkdir. (If
+/// the machine is busy, there may be several.) The first transaction is never the youngest.
+fn is_broken(outcome: &JobsOutcome) -> bool {
+    let reports = outcome.reports.as_slice();
+    reports.len() == 2 + outcome.victims.len()
+        && reports.len() > 2
+        && reports
+            .iter()
+            .take(2)
+            .all(|report| report.end == End::Committed)
+        && reports.iter().skip(2).all(|tried| is_tried(tried))
+}
+
+/// Returns whether a report is that of a try that was aborted after its first call, and whose
+/// transaction was not the first one.
+fn is_tried(report: &Report) -> bool {
+    report.end == End::Deadlock && report.txn != Some(TxnId(1)) && report.calls.len() == 1
+}
+
 /// An untruth of a manager.
 #[derive(Clone, Copy)]
 enum Lie {
@@ -235,9 +269,17 @@ impl Manager for Lying {
         self.shared.abort(rt, txn)
     }
 
-    fn into_core<R: Wait>(self, rt: &R) -> Recorded {
+    fn break_deadlock<R: Wait>(&self, rt: &R) -> Result<Option<TxnId>, Fault> {
+        self.shared.break_deadlock(rt)
+    }
+
+    fn is_victim<R: Wait>(&self, rt: &R, txn: TxnId) -> bool {
+        self.shared.is_victim(rt, txn)
+    }
+
+    fn into_parts<R: Wait>(self, rt: &R) -> (Recorded, Vec<TxnId>) {
         let Lying { shared, lie: _ } = self;
-        shared.into_core(rt)
+        shared.into_parts(rt)
     }
 }
 
@@ -297,6 +339,12 @@ fn jobs_side_by_side(rt: HostRuntime) -> Result<(), Fail> {
 #[test]
 fn turns_are_used_up(rt: HostRuntime) -> Result<(), Fail> {
     assert!(rt; crosses(&rt, rt.alloc())?);
+    Ok(())
+}
+
+#[test]
+fn deadlocks_are_broken(rt: HostRuntime) -> Result<(), Fail> {
+    assert!(rt; is_broken(&crosses_again(&rt, rt.alloc())?));
     Ok(())
 }
 

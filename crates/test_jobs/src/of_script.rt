@@ -110,6 +110,7 @@ struct Narrow {
 }
 
 impl Narrow {
+    /// Returns a writer that holds nothing yet.
     fn new(alloc: Global, room: usize, at_end: AtEnd) -> Narrow {
         Narrow {
             held: Vec::new(alloc),
@@ -149,6 +150,8 @@ fn played<R: Read, W: Write>(alloc: Global, reader: &mut R, writer: &mut W) -> R
     played_on(alloc, reader, writer, &mut core)
 }
 
+/// Plays a script on a core, and returns how it ends and the number of a transaction begun after
+/// it.
 fn played_on<R: Read, W: Write>(
     alloc: Global,
     reader: &mut R,
@@ -260,6 +263,8 @@ fn with_comment(alloc: Global, length: usize, end: &str) -> Result<Vec<u8>, Fail
     Ok(script)
 }
 
+/// Returns whether a script that begins with a comment of this length ends in this way, with these
+/// replies.
 fn gives_with_comment(
     alloc: Global,
     (length, behind): (usize, &str),

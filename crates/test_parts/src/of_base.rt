@@ -16,6 +16,7 @@ fn long_chains_are_joined_at_once(rt: HostRuntime) -> Result<(), Fail> {
     Ok(())
 }
 
+/// Returns whether two long lists can be joined many times, and have their entries afterwards.
 fn are_joined_at_once(chains: &mut OwnedLists<u64>) -> Result<bool, Memory> {
     fill(chains, 1)?;
     fill(chains, 2)?;
@@ -44,6 +45,7 @@ fn turn_round(chains: &mut OwnedLists<u64>) -> bool {
     true
 }
 
+/// Moves the list of one owner to that of another, if both are open. Returns whether it has.
 fn join(chains: &mut OwnedLists<u64>, source: u64, target: u64) -> bool {
     let can = source != target && chains.is_open(source) && chains.is_open(target);
     if can {

@@ -24,6 +24,7 @@ fn single_calls(rt: HostRuntime) -> Result<(), Fail> {
     Ok(())
 }
 
+/// Returns whether the undo of a write gives back the bytes before it.
 fn takes_write_back(body: &mut Body) -> Result<bool, Memory> {
     let was_empty = body.is_empty();
     let (taken, undo) = body.write_at(2, b"ab")?;
@@ -41,6 +42,7 @@ fn copy_is_a_body_of_its_own(rt: HostRuntime) -> Result<(), Fail> {
     Ok(())
 }
 
+/// Returns whether a copy keeps its bytes when the original changes.
 fn copies_apart(body: &mut Body) -> Result<bool, Memory> {
     let _ = body.write_at(2, b"ab")?;
     let copy = body.copy()?;
@@ -55,6 +57,7 @@ fn pages_of_a_body(rt: HostRuntime) -> Result<(), Fail> {
     Ok(())
 }
 
+/// Returns whether a write that crosses from one page into the next is read back, and undone.
 fn writes_across_pages(body: &mut Body) -> Result<bool, Memory> {
     let _ = body.set_len(1_048_576)?;
     let has_none = body.pages() == 0;
@@ -65,6 +68,7 @@ fn writes_across_pages(body: &mut Body) -> Result<bool, Memory> {
     Ok(is_written && is_cut && shows(body, 4_094, 4, b"\0\0\0\0")?)
 }
 
+/// Returns whether two pages are made, and have the bytes that were written.
 fn has_two_pages(body: &Body) -> Result<bool, Memory> {
     Ok(body.pages() == 2 && body.len() == 1_048_576 && shows(body, 4_094, 4, b"\0ab\0")?)
 }

@@ -29,6 +29,7 @@ fn numbers_are_used_up(rt: HostRuntime) -> Result<(), Fail> {
     Ok(())
 }
 
+/// Returns whether the last number is given, and none after it.
 fn gives_the_last_number(forest: &mut Forest) -> Result<bool, ForestFault> {
     let last = forest.begin()?;
     Ok(last.0 == 9_223_372_036_854_775_807 && forest.begin() == Err(ForestFault::Full))

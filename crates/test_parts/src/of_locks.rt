@@ -78,6 +78,7 @@ fn small_calls(rt: HostRuntime) -> Result<(), Fail> {
     Ok(())
 }
 
+/// Returns whether no lock is listed.
 fn has_no_line(locks: &Locks) -> Result<bool, Memory> {
     Ok(locks.lines()?.is_empty())
 }

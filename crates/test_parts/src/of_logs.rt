@@ -18,6 +18,7 @@ fn small_calls(rt: HostRuntime) -> Result<(), Fail> {
     Ok(())
 }
 
+/// Opens the lists of two transactions, and records calls in them.
 fn open_and_record(alloc: Global, logs: &mut Logs) -> Result<(), Memory> {
     logs.open(1)?;
     logs.open(2)?;
@@ -35,6 +36,7 @@ fn record(alloc: Global, logs: &mut Logs, txn: u64, stamp: u64) -> Result<(), Me
     Ok(())
 }
 
+/// Moves a child's list to its parent's, if both are open. Returns whether it has.
 fn hands_up(logs: &mut Logs, child: u64, parent: u64) -> bool {
     let can = child != parent && logs.is_open(child) && logs.is_open(parent);
     if can {
@@ -53,6 +55,7 @@ fn gives(logs: &mut Logs, txn: u64, stamps: &[u64]) -> bool {
     logs.newest(txn).is_none() && last_of(logs, txn).is_none()
 }
 
+/// Removes the last record of a transaction, and returns its stamp.
 fn last_of(logs: &mut Logs, txn: u64) -> Option<u64> {
     let LogRecord { stamp, undo: _ } = logs.take_last(txn)?;
     Some(stamp)
@@ -64,6 +67,7 @@ fn undo_of_a_read(alloc: Global) -> Result<Undo, Memory> {
     undo_of(alloc, &mut tree, &Call::Read { fd: 9, len: 1 })
 }
 
+/// Makes a call, and returns its undo.
 fn undo_of(alloc: Global, tree: &mut Tree, call: &Call) -> Result<Undo, Memory>
     requires sound { AreSoundCells tree.old }
     requires free { IsFree tree.old 2 }

@@ -19,6 +19,7 @@ fn errno_of(alloc: Global, text: &[u8]) -> Result<Option<Errno>, PathFault> {
     })
 }
 
+/// Returns whether these are the names.
 fn are_names(names: &[Name], wanted: &[&[u8]]) -> bool {
     let mut are_alike = names.len() == wanted.len();
     for (name, bytes) in names.iter().zip(wanted) {
@@ -45,6 +46,7 @@ fn paths_have_parts(rt: HostRuntime) -> Result<(), Fail> {
     Ok(())
 }
 
+/// Returns whether a text has these parts.
 fn has_parts(alloc: Global, text: &[u8], names: &[&[u8]], trailing: bool) -> Result<bool, Fail> {
     let parts = parts_of(alloc, text)?;
     Ok(parts.trailing == trailing && are_names(parts.names.as_slice(), names))

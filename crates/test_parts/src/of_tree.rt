@@ -12,6 +12,7 @@ fn small_calls(rt: HostRuntime) -> Result<(), Fail> {
     Ok(())
 }
 
+/// Returns whether the tree has only the root, without names.
 fn is_the_root_alone(tree: &Tree) -> Result<bool, Memory> {
     let rows = tree.rows()?;
     let is_one = matches!(rows.as_slice(), [TreeRow::Dir { number: ROOT }]);

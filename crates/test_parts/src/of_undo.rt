@@ -57,6 +57,7 @@ enum ReplyRef<'a> {
 #[derive(Debug, Drop)]
 struct WrongCall(usize);
 
+/// Returns the call that is described.
 fn call_of(alloc: Global, call: CallRef) -> Result<Call, Fail> {
     Ok(match call {
         CallRef::Mkdir(path) => Call::Mkdir {
@@ -81,6 +82,7 @@ fn call_of(alloc: Global, call: CallRef) -> Result<Call, Fail> {
     })
 }
 
+/// Returns a call that opens a file, and makes it if it is missing.
 fn open_of(path: FilePath) -> Call {
     Call::Open {
         path,
@@ -148,6 +150,7 @@ fn call_of_attributes(alloc: Global, call: CallRef) -> Result<Call, Fail> {
     })
 }
 
+/// Returns whether this is the reply.
 fn is_reply(reply: &Reply, wanted: ReplyRef) -> bool {
     match (reply, wanted) {
         (Reply::Done, ReplyRef::Done) => true,
@@ -183,6 +186,7 @@ fn make_calls(alloc: Global, calls: &[(CallRef, ReplyRef)]) -> Result<(), Fail> 
     make_calls_on(alloc, &mut tree, calls)
 }
 
+/// Makes these calls on a tree, one after another. Fails at the first one with another reply.
 fn make_calls_on(alloc: Global, tree: &mut Tree, calls: &[(CallRef, ReplyRef)]) -> Result<(), Fail>
     requires sound { AreSoundCells tree.old }
     requires free { (k : ℕ) → 2 ≤ k → IsFree tree.old k }
@@ -215,6 +219,7 @@ fn plays(
     Ok(answers(alloc, tree, stamp, &call, wanted)? && is_taken_back)
 }
 
+/// Makes a call, and returns whether this is its reply.
 fn answers(
     alloc: Global,
     tree: &mut Tree,
@@ -241,6 +246,7 @@ fn is_taken_back(alloc: Global, tree: &Tree, stamp: u64, call: &Call) -> Result<
     show_the_same(&copy, tree)
 }
 
+/// Makes a call, and undoes it.
 fn make_and_take_back(alloc: Global, tree: &mut Tree, stamp: u64, call: &Call) -> Result<(), Memory>
     requires sound { AreSoundCells tree.old }
     requires free { IsFree tree.old stamp }
@@ -250,6 +256,7 @@ fn make_and_take_back(alloc: Global, tree: &mut Tree, stamp: u64, call: &Call) -
     Ok(())
 }
 
+/// Returns whether two trees have the same rows.
 fn show_the_same(tree: &Tree, other: &Tree) -> Result<bool, Memory> {
     Ok(tree.rows()?.as_slice() == other.rows()?.as_slice())
 }
@@ -262,12 +269,14 @@ fn touches_two_cells(alloc: Global) -> Result<bool, Fail> {
     Ok(touches_two_cells_of(alloc, &tree, &call)?)
 }
 
+/// Returns whether the call writes only the entry and the new directory's parent.
 fn touches_two_cells_of(alloc: Global, tree: &Tree, call: &Call) -> Result<bool, Memory>
     requires { IsFree tree.now 2 }
 {
     Ok(are_entry_and_parent(accesses(alloc, tree, 2, call)?.as_slice()))
 }
 
+/// Returns whether these accesses write only these two cells.
 fn are_entry_and_parent(list: &[Access]) -> bool {
     match list {
         [

@@ -70,6 +70,7 @@ pub enum Wanted<'a> {
     Refused(Fault),
 }
 
+/// Returns the call of a line with one path, and its transaction.
 fn path_call(alloc: Global, line: Line) -> Result<(u64, Call), Fail> {
     match line {
         Line::Mkdir(txn, path) => {
@@ -132,6 +133,7 @@ fn file_call(alloc: Global, line: Line) -> Result<(u64, Call), Fail> {
     }
 }
 
+/// Returns the call of a line with a descriptor, and its transaction.
 fn descriptor_call(alloc: Global, line: Line) -> Result<(u64, Call), Fail> {
     match line {
         Line::Write(txn, fd, bytes) => {
@@ -270,6 +272,7 @@ fn is_answer(answer: &Answer, wanted: Wanted) -> bool {
 
 /// A receiver of requests.
 pub trait Answers {
+    /// Carries out a request, and returns the answer.
     fn answer_to(&mut self, request: Request) -> Answer;
 }
 

@@ -56,9 +56,17 @@ impl Manager for Aborting {
         self.shared.abort(rt, txn)
     }
 
-    fn into_core<R: Wait>(self, rt: &R) -> Recorded {
+    fn break_deadlock<R: Wait>(&self, rt: &R) -> Result<Option<TxnId>, Fault> {
+        self.shared.break_deadlock(rt)
+    }
+
+    fn is_victim<R: Wait>(&self, rt: &R, txn: TxnId) -> bool {
+        self.shared.is_victim(rt, txn)
+    }
+
+    fn into_parts<R: Wait>(self, rt: &R) -> (Recorded, Vec<TxnId>) {
         let Aborting { shared, parent: _ } = self;
-        shared.into_core(rt)
+        shared.into_parts(rt)
     }
 }
 

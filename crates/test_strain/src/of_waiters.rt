@@ -20,6 +20,7 @@ const MANY_TURNS: u64 = 400;
 /// The reply if what a call names is missing.
 const MISSING: Reply = Reply::Failed(Errno::ENOENT);
 
+/// Returns a call that looks at a path.
 fn stat_call(alloc: Global, path: &[u8]) -> Result<Call, Fail> {
     let path = FilePath::new(alloc, path)?;
     Ok(Call::Stat { path })
@@ -127,6 +128,7 @@ fn comes_and_goes<R: Threads + Wait + Clock + Sync>(
     Ok(has_come && ends_by_abort(rt, shared, &of_two)?)
 }
 
+/// Returns whether a cycle of waiting threads is reported, and ends by an abort.
 fn has_cycle<R: Threads + Wait + Clock + Sync>(rt: &R, alloc: Global) -> Result<bool, Fail> {
     let shared = new_shared(alloc)?;
     let told = comes_and_goes(rt, alloc, &shared);
@@ -190,6 +192,7 @@ fn goes_on_below<R: Threads + Wait + Clock + Sync>(
     Ok(waits && has_gone_on && shared.commit(rt, TxnId(4)) == Ok(()))
 }
 
+/// Returns whether a call of a child goes on when its parent no longer blocks it.
 fn lets_child_go_on<R: Threads + Wait + Clock + Sync>(rt: &R, alloc: Global) -> Result<bool, Fail> {
     let shared = new_shared(alloc)?;
     let told = goes_on_below(rt, alloc, &shared);

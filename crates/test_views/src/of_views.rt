@@ -21,6 +21,7 @@ use test_scripts::{Line, Through, Wanted, is_reply, new_shared, plays};
 
 /// The steps with the views of a core, and whether all is answered as it should be.
 trait Steps {
+    /// Takes these steps, and returns whether the reader saw what it should.
     fn take<J: Sharing, R: Wait>(
         &self,
         rt: &R,
@@ -43,6 +44,7 @@ fn through_views<S: Steps, R: Wait>(
     }
 }
 
+/// Names the views, takes the steps, and returns whether all was seen, with the core.
 fn through_named<J: Sharing, S: Steps, R: Wait>(
     rt: &R,
     alloc: Global,
@@ -449,6 +451,7 @@ fn publishes_beside<J: Sharing + Send + Sync, R: Threads + Wait + Sync>(
     Ok(answers.iter().all(|is_so| *is_so))
 }
 
+/// Names the views, and returns whether a thread sees them while another one publishes.
 fn publishes_beside_named<J: Sharing + Send + Sync, R: Threads + Wait + Sync>(
     rt: &R,
     alloc: Global,

@@ -16,4 +16,4 @@ returns c =
     (λ u x g. g.0) c.get_one-2.ensures.none c.get_one-2.ensures.value (search rules) in
     let least : 1 ≤ c.in_ok-turns.turns = let differs = c.if-turns-eq0.false in omega arith in
     let quiet = flag_read found (codes "quiet") c.get_flag.result c.get_flag.ensures.none c.get_flag.ensures.value c.get_flag.ensures.other in
-    (sym (first_value-rows found (codes "file")) ∙ sym c.in_ok-file.ensures ∙ ap Some (sym copied), turns, least, threads, quiet)
+    (sym (first_value-rows found (codes "file")) ∙ sym c.in_ok-file.ensures ∙ ap Some (sym copied), turns, least, threads, c.in_ok-retries.ensures, quiet)

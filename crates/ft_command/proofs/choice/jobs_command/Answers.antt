@@ -13,7 +13,8 @@ returns-clause-app c =
     let three_is = c.in_ok-arg-3.ensures.shape c.quiet_arg.ensures.local ∙ ap₂ with_rule two_is c.quiet_arg.ensures.rule in
     let four_is = c.in_ok-arg-4.ensures.shape c.moss_arg.ensures.local ∙ ap₂ with_rule three_is c.moss_arg.ensures.rule in
     let five_is = c.in_ok-arg-5.ensures.shape c.after_arg.ensures.local ∙ ap₂ with_rule four_is c.after_arg.ensures.rule in
-    let all_is = c.in_ok-command.ensures.shape c.threads_arg.ensures.local ∙ ap₂ with_rule five_is c.threads_arg.ensures.rule in
+    let six_is = c.in_ok-arg-6.ensures.shape c.threads_arg.ensures.local ∙ ap₂ with_rule five_is c.threads_arg.ensures.rule in
+    let all_is = c.in_ok-command.ensures.shape c.retries_arg.ensures.local ∙ ap₂ with_rule six_is c.retries_arg.ensures.rule in
     IfOk-weaker c.with_limits.result _ _ (λ command h. h ∙ ap limited all_is) c.with_limits.ensures.app
 
 pub returns-clause-local : goal.returns-clause-local
@@ -24,4 +25,5 @@ returns-clause-local c =
     let three = c.in_ok-arg-3.ensures.globals ∙ ap₂ (λ a b. a || b) two c.quiet_arg.ensures.local in
     let four = c.in_ok-arg-4.ensures.globals ∙ ap₂ (λ a b. a || b) three c.moss_arg.ensures.local in
     let five = c.in_ok-arg-5.ensures.globals ∙ ap₂ (λ a b. a || b) four c.after_arg.ensures.local in
-    c.with_limits.ensures.local (c.in_ok-command.ensures.globals ∙ ap₂ (λ a b. a || b) five c.threads_arg.ensures.local)
+    let six = c.in_ok-arg-6.ensures.globals ∙ ap₂ (λ a b. a || b) five c.threads_arg.ensures.local in
+    c.with_limits.ensures.local (c.in_ok-command.ensures.globals ∙ ap₂ (λ a b. a || b) six c.retries_arg.ensures.local)

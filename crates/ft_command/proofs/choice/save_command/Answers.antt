@@ -11,7 +11,11 @@ returns-clause-app c =
     let one_is = c.in_ok-arg.ensures.shape c.dir_arg.ensures.local ∙ ap₂ with_rule (ap app_of_fields c.about.ensures ∙ c.new.ensures.app) c.dir_arg.ensures.rule in
     let two_is = c.in_ok-arg-2.ensures.shape c.set_id_arg.ensures.local ∙ ap₂ with_rule one_is c.set_id_arg.ensures.rule in
     let three_is = c.in_ok-arg-3.ensures.shape c.no_owners_arg.ensures.local ∙ ap₂ with_rule two_is c.no_owners_arg.ensures.rule in
-    let all_is = c.in_ok-command.ensures.shape c.quiet_arg.ensures.local ∙ ap₂ with_rule three_is c.quiet_arg.ensures.rule in
+    let four_is = c.in_ok-arg-4.ensures.shape c.quiet_arg.ensures.local ∙ ap₂ with_rule three_is c.quiet_arg.ensures.rule in
+    let five_is = c.in_ok-arg-5.ensures.shape c.sync_arg.ensures.local ∙ ap₂ with_rule four_is c.sync_arg.ensures.rule in
+    let six_is = c.in_ok-arg-6.ensures.shape c.into_arg.ensures.local ∙ ap₂ with_rule five_is c.into_arg.ensures.rule in
+    let seven_is = c.in_ok-arg-7.ensures.shape c.remove_arg.ensures.local ∙ ap₂ with_rule six_is c.remove_arg.ensures.rule in
+    let all_is = c.in_ok-command.ensures.shape c.dry_run_arg.ensures.local ∙ ap₂ with_rule seven_is c.dry_run_arg.ensures.rule in
     IfOk-weaker c.with_limits.result _ _ (λ command h. h ∙ ap limited all_is) c.with_limits.ensures.app
 
 pub returns-clause-local : goal.returns-clause-local
@@ -20,4 +24,8 @@ returns-clause-local c =
     let one = c.in_ok-arg.ensures.globals ∙ ap₂ (λ a b. a || b) bare c.dir_arg.ensures.local in
     let two = c.in_ok-arg-2.ensures.globals ∙ ap₂ (λ a b. a || b) one c.set_id_arg.ensures.local in
     let three = c.in_ok-arg-3.ensures.globals ∙ ap₂ (λ a b. a || b) two c.no_owners_arg.ensures.local in
-    c.with_limits.ensures.local (c.in_ok-command.ensures.globals ∙ ap₂ (λ a b. a || b) three c.quiet_arg.ensures.local)
+    let four = c.in_ok-arg-4.ensures.globals ∙ ap₂ (λ a b. a || b) three c.quiet_arg.ensures.local in
+    let five = c.in_ok-arg-5.ensures.globals ∙ ap₂ (λ a b. a || b) four c.sync_arg.ensures.local in
+    let six = c.in_ok-arg-6.ensures.globals ∙ ap₂ (λ a b. a || b) five c.into_arg.ensures.local in
+    let seven = c.in_ok-arg-7.ensures.globals ∙ ap₂ (λ a b. a || b) six c.remove_arg.ensures.local in
+    c.with_limits.ensures.local (c.in_ok-command.ensures.globals ∙ ap₂ (λ a b. a || b) seven c.dry_run_arg.ensures.local)

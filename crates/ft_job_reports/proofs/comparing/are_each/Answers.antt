@@ -13,10 +13,10 @@ pub returns : goal.returns
 returns c = (are, λ each. refl)
   where
     are : IsTrue true → (at : ℕ) → IsReportAt (told c.args.events.now) c.args.jobs.now c.args.reports.now at
-    are is at job r j k =
-        let within = slice_get_within c.args.jobs.now at job j in
+    are is at r there =
+        let within = slice_get_within c.args.reports.now at r there in
         let so_far : at < c.loop-at.at = omega arith in
-        c.loop-at.invariant at so_far job r j k
+        c.loop-at.invariant at so_far r there
 
 pub returns-then-not-branch : goal.returns-then-not-branch
 returns-then-not-branch c = (

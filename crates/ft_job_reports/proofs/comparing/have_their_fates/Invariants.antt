@@ -5,4 +5,4 @@ use Rattle.ft_job_reports.proofs.comparing.have_their_fates.Given as goal
 
 -- the reports so far say what became of their transactions
 abbrev pub invariant-loop-report : goal.invariant-loop-report
-invariant-loop-report l = All (HasItsFate l.core.state) (take l.report-index l.reports)
+invariant-loop-report l = All (HasItsFate l.core.state l.victims) (take l.report-index l.reports)

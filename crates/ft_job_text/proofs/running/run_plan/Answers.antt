@@ -3,6 +3,12 @@ use Rattle.ft_job_text.specs.Runs.{IsTextOfJobs}
 use Rattle.ft_job_text.proofs.Unrun.{passed_on, unrun}
 use Rattle.ft_job_text.proofs.running.run_plan.Goals as goal
 
+pub returns-in-Ok-clause-ok : goal.returns-in-Ok-clause-ok
+returns-in-Ok-clause-ok g c =
+    let jobs = c.in_ok-plan.plan in
+    let told = subst (IsTextOfJobs c.in_ok-text.met c.args.core.state jobs) (sym c.as_bytes.ensures.value) c.in_ok-text.ensures.ok in
+    (c.as_bytes.result.now, (jobs, c.in_ok-plan.ensures.plan, told), c.in-Ok.ensures.ok)
+
 pub returns-clause-fault : goal.returns-clause-fault
 returns-clause-fault g c =
     let met = c.in_ok-text.met in

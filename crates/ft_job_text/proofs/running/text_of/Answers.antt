@@ -10,6 +10,7 @@ returns-clause-ok g c =
       outcome = outcome;
       goes_on = c.in_ok-outcome.ensures.core;
       reports = c.in_ok-outcome.ensures.ok;
+      victims = c.in_ok-outcome.ensures.victims;
       told = c.in_ok-text.ensures ∙ ap (λ (jobs : List Job). text_of_outcome jobs outcome) c.jobs-jobs.ensures.jobs;
       as_meant = (search rules);
     }

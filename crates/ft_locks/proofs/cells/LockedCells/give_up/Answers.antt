@@ -2,7 +2,7 @@ use Rattle.std.proofs.Common.{ap, sym, subst, ◌∙◌, is_some}
 use Rattle.std.specs.FinMap as finite
 use Rattle.ft_lock_rules.specs.Holdings.{AreSingle}
 use Rattle.ft_lock_rules.specs.Cells.{Keyed}
-use Rattle.ft_lock_rules.specs.Seen.{is_marked_at}
+use Rattle.ft_lock_rules.specs.Seen.{is_kept_at}
 use Rattle.ft_locks.specs.BulkReleased.{left_in, is_left}
 use Rattle.ft_locks.proofs.GivenUp.{at_some, given-left, given-single}
 use Rattle.ft_locks.proofs.Hashed.{keyed-empty, hashed-empty, cells-empty}
@@ -22,11 +22,11 @@ invariant_of-self c = record {
 }
 
 pub returns-clause-single : goal.returns-clause-single
-returns-clause-single c = subst (λ es. AreSingle (left_in es)) (sym c.fill.ensures.filled) (given-single c.self.inside.locked c.self.invariant.keyed)
+returns-clause-single c = λ all. subst (λ es. AreSingle (left_in all es)) (sym c.fill.ensures.filled) (given-single all c.self.inside.locked c.self.invariant.keyed)
 
 pub returns-clause-given : goal.returns-clause-given
-returns-clause-given c = λ d.
-    ap (λ es. is_left es d) c.fill.ensures.filled ∙ given-left c.self.inside.locked c.self.invariant.keyed d ∙ ap (λ (m : Keyed). is_marked_at m.cells d) c.self.view_is
+returns-clause-given c = λ all d.
+    ap (λ es. is_left all es d) c.fill.ensures.filled ∙ given-left all c.self.inside.locked c.self.invariant.keyed d ∙ ap (λ (m : Keyed). is_kept_at all m.cells d) c.self.view_is
 
 pub returns-clause-cells : goal.returns-clause-cells
 returns-clause-cells c = cells-empty c.fill.new.cells c.fill.ensures.empty

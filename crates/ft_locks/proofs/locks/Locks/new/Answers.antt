@@ -1,11 +1,11 @@
-use Rattle.std.proofs.Common.{nat_cmp, ap, subst, sym, ◌∙◌}
+use Rattle.std.proofs.Common.{false, nat_cmp, ap, subst, sym, ◌∙◌}
 use Rattle.std.specs.Option.{is_some}
 use Rattle.std.specs.FinMap as finite
 use Rattle.ft_base.specs.OwnedLists.{list_in}
 use Rattle.ft_lock_rules.specs.Holdings.{AreSingle}
 use Rattle.ft_lock_rules.specs.Seen.{table_of}
 use Rattle.ft_lock_rules.proofs.Handing.{seen_none}
-use Rattle.ft_locks.specs.BulkReleased.{left_in}
+use Rattle.ft_locks.specs.BulkReleased.{left_in, seen_as}
 use Rattle.ft_locks.proofs.GivenUp.{gone-none}
 use Rattle.ft_locks.proofs.locks.Locks.new.Goals as goal
 
@@ -16,11 +16,11 @@ pub invariant_of-result : goal.invariant_of-result
 invariant_of-result c = (
   (seen_none c.open_zero.new.self.cells c.open_zero.new.self.lists (c.open_zero.ensures.cells ∙ c.new-holdings.ensures.cells)
       (c.open_zero.ensures.lists ∙ ap (λ m. finite.insert m 0 (list_in m 0)) c.new-holdings.ensures.lists)).0,
-  subst (λ g. AreSingle (left_in g)) (sym c.new.ensures) tt,
+  subst (λ g. AreSingle (left_in false g)) (sym c.new.ensures) tt,
 )
 
 pub returns : goal.returns
 returns c =
-    gone-none c.new.result (table_of c.open_zero.new.self.cells c.open_zero.new.self.lists) c.new.ensures
+    ap (seen_as false) (gone-none false c.new.result (table_of c.open_zero.new.self.cells c.open_zero.new.self.lists) c.new.ensures
     ∙ (seen_none c.open_zero.new.self.cells c.open_zero.new.self.lists (c.open_zero.ensures.cells ∙ c.new-holdings.ensures.cells)
-    (c.open_zero.ensures.lists ∙ ap (λ m. finite.insert m 0 (list_in m 0)) c.new-holdings.ensures.lists)).1
+    (c.open_zero.ensures.lists ∙ ap (λ m. finite.insert m 0 (list_in m 0)) c.new-holdings.ensures.lists)).1)

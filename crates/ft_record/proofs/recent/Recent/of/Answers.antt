@@ -7,4 +7,4 @@ use Rattle.ft_record.proofs.recent.Recent.of.Goals as goal
 pub invariant_of-result : goal.invariant_of-result
 invariant_of-result c =
     let s : State = c.args.core.state in
-    recent-at s.rule s.limits s.base s c.requires c.new-past.result (ap (λ (q : Recording). q.events) c.new-past.ensures) (ap (λ (q : Recording). q.spare) c.new-past.ensures) (record { started = c.reached.ensures.started; legal = c.reached.ensures.legal })
+    recent-at s.rule s.limits s.base s c.requires c.new-past.result (ap (λ (q : Recording). q.events) c.new-past.ensures) (ap (λ (q : Recording). q.spare) c.new-past.ensures) (record { started = c.alloc.ensures.started; legal = c.alloc.ensures.legal })

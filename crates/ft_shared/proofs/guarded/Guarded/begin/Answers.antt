@@ -2,7 +2,6 @@ use Rattle.std.proofs.Common.{refl}
 use Rattle.ft_core.specs.declared.request.Request.TheVariants.{Begin}
 use Rattle.ft_core.specs.declared.request.Answer.TheVariants.{Txn}
 use Rattle.ft_core.specs.Steps.{answer_with}
-use Rattle.ft_record.proofs.Moving.{goes-on}
 use Rattle.ft_shared.proofs.Staying.{still}
 use Rattle.ft_shared.proofs.guarded.Guarded.begin.Goals as goal
 
@@ -10,5 +9,5 @@ pub invariant_of-self : goal.invariant_of-self
 invariant_of-self g c =
     let old = (g.C.Shareable.stored c.self.inside.core).state in
     let new = (g.C.Shareable.stored c.begin.new.self).state in
-    still g.J.Sharing.origin old new (g.C.Shareable.forgotten c.self.inside.core) (g.C.Shareable.forgotten c.begin.new.self) c.self.inside.publisher
-    (goes-on old new Begin (answer_with Txn c.begin.result) refl c.begin.ensures.step) c.begin.ensures.forgotten c.self.invariant
+    still g.J.Sharing.origin old new Begin (answer_with Txn c.begin.result) (g.C.Shareable.forgotten c.self.inside.core) (g.C.Shareable.forgotten c.begin.new.self) c.self.inside.publisher c.self.inside.victims.items
+    refl c.begin.ensures.step c.begin.ensures.forgotten c.self.invariant

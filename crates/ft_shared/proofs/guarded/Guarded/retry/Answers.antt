@@ -1,7 +1,6 @@
 use Rattle.std.proofs.Common.{refl}
 use Rattle.ft_core.specs.declared.request.Request.TheVariants.{Retry}
 use Rattle.ft_core.specs.Steps.{answer_with, outcome_answer}
-use Rattle.ft_record.proofs.Moving.{goes-on}
 use Rattle.ft_shared.proofs.Staying.{still}
 use Rattle.ft_shared.proofs.guarded.Guarded.retry.Goals as goal
 
@@ -9,5 +8,5 @@ pub invariant_of-self : goal.invariant_of-self
 invariant_of-self g c =
     let old = (g.C.Shareable.stored c.self.inside.core).state in
     let new = (g.C.Shareable.stored c.retry.new.self).state in
-    still g.J.Sharing.origin old new (g.C.Shareable.forgotten c.self.inside.core) (g.C.Shareable.forgotten c.retry.new.self) c.self.inside.publisher
-    (goes-on old new (Retry c.args.txn) (answer_with outcome_answer c.retry.result) refl c.retry.ensures.step) c.retry.ensures.forgotten c.self.invariant
+    still g.J.Sharing.origin old new (Retry c.args.txn) (answer_with outcome_answer c.retry.result) (g.C.Shareable.forgotten c.self.inside.core) (g.C.Shareable.forgotten c.retry.new.self) c.self.inside.publisher c.self.inside.victims.items
+    refl c.retry.ensures.step c.retry.ensures.forgotten c.self.invariant

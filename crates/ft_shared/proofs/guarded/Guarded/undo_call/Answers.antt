@@ -3,7 +3,6 @@ use Rattle.ft_core.specs.declared.request.Request.TheVariants.{Undo}
 use Rattle.ft_core.specs.declared.request.Answer.TheVariants.{Undone}
 use Rattle.ft_core.specs.States.{StoredState}
 use Rattle.ft_core.specs.Steps.{answer_with}
-use Rattle.ft_record.proofs.Moving.{goes-on}
 use Rattle.ft_shared.specs.Guarded.{IsUndone}
 use Rattle.ft_shared.specs.Publishing.{Backed}
 use Rattle.ft_shared.proofs.Staying.{still}
@@ -13,8 +12,8 @@ pub invariant_of-self : goal.invariant_of-self
 invariant_of-self g c =
     let old = (g.C.Shareable.stored c.self.inside.core).state in
     let new = (g.C.Shareable.stored c.undo_call.new.self).state in
-    still g.J.Sharing.origin old new (g.C.Shareable.forgotten c.self.inside.core) (g.C.Shareable.forgotten c.undo_call.new.self) c.self.inside.publisher
-    (goes-on old new (Undo c.args.txn) (answer_with Undone c.undo_call.result) refl c.undo_call.ensures.step.0) c.undo_call.ensures.forgotten c.self.invariant
+    still g.J.Sharing.origin old new (Undo c.args.txn) (answer_with Undone c.undo_call.result) (g.C.Shareable.forgotten c.self.inside.core) (g.C.Shareable.forgotten c.undo_call.new.self) c.self.inside.publisher c.self.inside.victims.items
+    refl c.undo_call.ensures.step.0 c.undo_call.ensures.forgotten c.self.invariant
 
 pub returns-clause-step : goal.returns-clause-step
 returns-clause-step g c =

@@ -1,11 +1,7 @@
-use Rattle.std.proofs.Common.{sym, subst}
-use Rattle.ft_core.specs.Reached.{IsReached}
-use Rattle.ft_record.specs.Going.{GoesOn}
-use Rattle.ft_shared.specs.Publishing.{Backed}
 use Rattle.ft_shared.proofs.shared.Shared.abort.Goals as goal
 
 pub returns-then-is_ok : goal.returns-then-is_ok
-returns-then-is_ok g c = record { some_core = (c.deref_mut.result.now.core, subst (λ (b : Backed). IsReached b.core) (sym c.deref_mut.ensures.value) c.held-behind.ensures.reached, subst (λ (b : Backed). GoesOn g.J.Sharing.origin.from b.core.state) (sym c.deref_mut.ensures.value) c.held-behind.ensures.goes_on, (c.abort-answer.new.self.core.state, c.abort-answer.ensures.step)) }
+returns-then-is_ok g c = record { some_core = (record { state = c.deref_mut.result.now.core.state; cells = c.abort-answer.ensures.from.of_core.0 }, c.abort-answer.ensures.from.of_core.1, c.abort-answer.ensures.from.goes_on, (c.abort-answer.new.self.core.state, c.abort-answer.ensures.step)) }
 
 pub returns-else-is_ok : goal.returns-else-is_ok
-returns-else-is_ok g c = record { some_core = (c.deref_mut.result.now.core, subst (λ (b : Backed). IsReached b.core) (sym c.deref_mut.ensures.value) c.held-behind.ensures.reached, subst (λ (b : Backed). GoesOn g.J.Sharing.origin.from b.core.state) (sym c.deref_mut.ensures.value) c.held-behind.ensures.goes_on, (c.abort-answer.new.self.core.state, c.abort-answer.ensures.step)) }
+returns-else-is_ok g c = record { some_core = (record { state = c.deref_mut.result.now.core.state; cells = c.abort-answer.ensures.from.of_core.0 }, c.abort-answer.ensures.from.of_core.1, c.abort-answer.ensures.from.goes_on, (c.abort-answer.new.self.core.state, c.abort-answer.ensures.step)) }

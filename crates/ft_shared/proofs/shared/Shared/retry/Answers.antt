@@ -1,8 +1,4 @@
-use Rattle.std.proofs.Common.{sym, subst}
-use Rattle.ft_core.specs.Reached.{IsReached}
-use Rattle.ft_record.specs.Going.{GoesOn}
-use Rattle.ft_shared.specs.Publishing.{Backed}
 use Rattle.ft_shared.proofs.shared.Shared.retry.Goals as goal
 
 pub returns : goal.returns
-returns g c = record { some_core = (c.deref_mut.result.now.core, subst (λ (b : Backed). IsReached b.core) (sym c.deref_mut.ensures.value) c.held-behind.ensures.reached, subst (λ (b : Backed). GoesOn g.J.Sharing.origin.from b.core.state) (sym c.deref_mut.ensures.value) c.held-behind.ensures.goes_on, (c.retry-answer.new.self.core.state, c.retry-answer.ensures.step)) }
+returns g c = record { some_core = (record { state = c.deref_mut.result.now.core.state; cells = c.retry-answer.ensures.from.of_core.0 }, c.retry-answer.ensures.from.of_core.1, c.retry-answer.ensures.from.goes_on, (c.retry-answer.new.self.core.state, c.retry-answer.ensures.step)) }

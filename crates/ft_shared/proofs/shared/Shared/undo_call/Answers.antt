@@ -1,8 +1,4 @@
-use Rattle.std.proofs.Common.{sym, subst}
-use Rattle.ft_core.specs.Reached.{IsReached}
-use Rattle.ft_record.specs.Going.{GoesOn}
-use Rattle.ft_shared.specs.Publishing.{Backed}
 use Rattle.ft_shared.proofs.shared.Shared.undo_call.Goals as goal
 
 pub returns : goal.returns
-returns g c = record { some_core = (c.deref_mut.result.now.core, subst (λ (b : Backed). IsReached b.core) (sym c.deref_mut.ensures.value) c.held-behind.ensures.reached, subst (λ (b : Backed). GoesOn g.J.Sharing.origin.from b.core.state) (sym c.deref_mut.ensures.value) c.held-behind.ensures.goes_on, (c.undo_call-answer.new.self.core.state, c.undo_call-answer.ensures.step)) }
+returns g c = record { some_core = (record { state = c.deref_mut.result.now.core.state; cells = c.undo_call-answer.ensures.from.of_core.0 }, c.undo_call-answer.ensures.from.of_core.1, c.undo_call-answer.ensures.from.goes_on, (c.undo_call-answer.new.self.core.state, c.undo_call-answer.ensures.step)) }
