@@ -4,6 +4,7 @@ header.py rust HEADER..: writes what the crate nuzolged-sys declares of them.
 
 A header is read as it is laid out: a comment of two stars comes before its function and may end
 in @param, a comment that begins with ---- begins a section, and another belongs to what follows it.
+NUZ_MUST_USE, in a line of its own, is for compilers and is left out.
 """
 from __future__ import annotations
 
@@ -16,7 +17,7 @@ from typing import Iterator
 #: The parts of a header, in their order: comments, and what is declared or defined.
 PARTS = re.compile(
     r"(?P<comment>/\*.*?\*/)"
-    r"|(?P<define>^#define \w+(?:\(\w+\))?(?:\\\n|[^\n])*)"
+    r"|(?P<define>^#define (?!NUZ_MUST_USE)\w+(?:\(\w+\))?(?:\\\n|[^\n])*)"
     r"|(?P<opaque>^typedef struct \w+ \w+;)"
     r"|(?P<struct>^typedef struct \w+ \{.*?^\} \w+;)"
     r"|(?P<enum>^enum \{.*?\};)"
@@ -109,7 +110,7 @@ def verbatim(code: str) -> Iterator[str]:
 
 
 def flowing(text: str) -> Iterator[str]:
-    """Paragraphs of a comment: with items, if lines begin with -, and as they stand, if they have
+    """Paragraphs of a comment: with items, if lines begin with -, and unchanged, if they have
     columns."""
     for paragraph in text.split("\n\n"):
         yield ".PP"

@@ -26,7 +26,7 @@ class Time(ctypes.Structure):
 
 
 def set_time(seconds, nanoseconds, path, flags=0):
-    """Sets the time of the bytes alone; os.utime takes no nanoseconds of a second or more."""
+    """Sets only the time of the bytes; os.utime takes no nanoseconds of a second or more."""
     times = (Time * 2)(Time(0, TIME_STAYS), Time(seconds, nanoseconds))
     check(LIBC.utimensat(FROM_ROOT, path, times, flags))
 
@@ -42,7 +42,7 @@ def check(status):
 
 
 def has_privileges():
-    """Whether the process may do whatever it is asked for, whoever owns what."""
+    """Whether the process may make every call, no matter who owns what."""
     path = "/of another"
     os.close(os.open(path, os.O_CREAT | os.O_WRONLY, 0))
     os.chown(path, calls.LAST_OWNER, calls.LAST_OWNER)

@@ -45,7 +45,7 @@ PATHS = "EGLPMQ"
 # How often a circle is followed once more.
 TIMES = [0, 1, MOST_FOLLOWED - 2, MOST_FOLLOWED - 1, MOST_FOLLOWED]
 
-# What paths of a kind are known to lead to.
+# The kinds of things that paths are known to lead to.
 KINDS = {"E": "file", "G": "dir", "L": "link"}
 
 NAMES = [b"a", b"b", b"c", b"a", b"b", b"c", b"%", b"\xc3\xa9 x"]
@@ -171,7 +171,7 @@ def coded(data):
 # The calls that look a last link up itself, and change nothing in its directory.
 OF_LINKS = ["lstat", "readlink", "lchown", "lutime"]
 
-# What each of these calls makes; a further name is of what the first path leads to.
+# The kind of thing that each of these calls makes; a further name is of what the first path names.
 MADE = {"mkdir": "dir", "open": "file", "symlink": "link", "link": None}
 
 

@@ -1,5 +1,5 @@
 """Directories that somebody else changes while they are loaded: something replaces the thing that
-was found, right before each call of the program in turn, for good and for that call alone.
+was found, right before each call of the program in turn, for good and for only that call.
 
 Nothing outside the directory may come into the script, and no file, directory or link
 may be one half what was there and the other half what has come.

@@ -1,4 +1,4 @@
-"""Where the program goes by POSIX.1-2017, or a choice that POSIX leaves free, and Linux does not.
+"""Differences: the program goes by POSIX.1-2017, or a choice that it leaves free; Linux does not.
 
 Each rule describes its step: the call, the two answers, and what its paths lead to. A
 difference that no rule describes is a fault.
@@ -16,7 +16,7 @@ LONGEST_NAME = 255
 
 # A call as both have answered it, without the stamp. kinds are what its own paths lead to (dir,
 # file, which a link is too, or the name of an error), start is the offset that it counts from, and
-# met is what the system was asked otherwise.
+# met is in which other form the system got the call.
 Step = collections.namedtuple("Step", "call stamp ours theirs kinds start met")
 
 # The subject of the rule, its source, and whether a step is so.

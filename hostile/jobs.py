@@ -112,7 +112,7 @@ def refused_threads_for_good(bench):
 
 
 def fault_of_threads_refused(bench, settings):
-    """Each thread: the run ends for want of it, after those that were started."""
+    """Each thread is refused: the run ends for lack of it, after those that were started."""
     plan = Plan(bench)
     for number in range(1, len(MADE) + 1):
         ran, counts = plan.run(thread=number, thread_delay=DELAY, **settings)

@@ -20,6 +20,13 @@ TEXT_ROOM = 8
 # Requests that take no memory except for their text.
 TAKES_NONE = (b"commit ", b"abort ", b"undo ", b"drop ")
 
+# A line that is longer may take memory for its words, with numbers in place of names.
+SHORT_LINE = 64
+
+# A line that is never granted: it is made in a transaction that does not exist. The name that it
+# gives is not known after it.
+UNNAMING = b"retry 0 as "
+
 
 def tests():
     named = []
@@ -66,7 +73,7 @@ class Refusals:
         for at, request in list(enumerate(self.requests))[1:]:
             made = counts.notes[at] - counts.notes[at - 1]
             is_longest = len(request) > max(map(len, self.requests[:at]))
-            if request.startswith(TAKES_NONE):
+            if request.startswith(TAKES_NONE) and len(request) < SHORT_LINE:
                 if made > made_for_text(self.replies[at]) + is_longest:
                     return f"{request!r} makes {made} allocations"
         return None
@@ -100,9 +107,19 @@ class Refusals:
     def text_without(self, at):
         """What is written for the script without one request."""
         if at not in self.texts_without:
-            ran, _ = self.played(self.requests[:at] + self.requests[at + 1 :])
-            self.texts_without[at] = ran.text
+            replies = self.replies_instead(at, self.requests[at + 1 :])
+            self.texts_without[at] = b"".join(replies)
         return self.texts_without[at]
+
+    def replies_instead(self, at, behind):
+        """The replies to the requests before one that is refused, and to those behind.
+
+        If that one gives a name, the name is not known behind it.
+        """
+        unnaming = unnaming_of(self.requests[at])
+        ran, _ = self.played(self.requests[:at] + unnaming + behind)
+        replies = scripts.replies_of(ran.text)
+        return replies[:at] + replies[at + len(unnaming) :]
 
     def fault_of_each_refused(self, ends):
         """Each request, with each allocation between the reply before it and its own refused."""
@@ -147,8 +164,7 @@ class Refusals:
             return fault_of_no_refusal(ran, replies, at, self.replies[at])
         if replies[at + 1] != b"ok\n":
             return f"the abort behind it: {replies[at + 1]!r}"
-        alone, _ = self.played(self.requests[:at] + behind)
-        wanted = scripts.replies_of(alone.text)
+        wanted = self.replies_instead(at, behind)
         return scripts.first_difference(replies[:at] + replies[at + 1 :], wanted)
 
 
@@ -180,8 +196,15 @@ def fault_of_no_refusal(ran, replies, at, right):
     return None if replies[at] == right else f"expected {right!r}, got {replies[at]!r}"
 
 
+def unnaming_of(request):
+    """A line after which the name that a request gives is not known, if it gives one."""
+    _, is_given, name = request.rstrip(b"\r").rpartition(b" as ")
+    return [UNNAMING + name] if is_given else []
+
+
 def asker_of(request):
-    """The transaction that a request is made in, or nothing."""
+    """The transaction that a request is made in, by its number or its name, or nothing."""
     words = request.rstrip(b"\r").split(b" ")
-    number = words[1] if words[0] in (b"sub", b"retry") else words[0]
-    return number if number.isdigit() else None
+    if len(words) < 2 or words[0] == b"begin":
+        return None
+    return words[1] if words[0] in (b"sub", b"retry") else words[0]

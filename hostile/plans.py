@@ -33,7 +33,13 @@ Call = collections.namedtuple("Call", "stamp words reply")
 Told = collections.namedtuple("Told", "txn end calls")
 
 
-NOT_OPENED = "'@' needs the number of an earlier step 'open' of the job"
+NOT_OPENED = "'@' needs the number or the name of an earlier step 'open' of the job"
+
+NO_STEP = "not a step: no call has this name and these words"
+TOO_LONG = "it has more than 8,388,608 bytes, as it is or with numbers for its names"
+
+# A plan that is too long once there are numbers, of two digits, in place of its names.
+LONG = "job a\n" + "stat /\n" * 9 + "open r /f as f\n" + "fstat @f\n" * 930_000 + "commit\n"
 
 # Files that are no plans. For each: the line that is wrong, or None, and what is said of it.
 MISTAKES = [
@@ -54,12 +60,21 @@ MISTAKES = [
     ("job a\nsubs\nsubs\n", 3, "the job has a step 'subs' already"),
     ("job a\nsubs\ncommit\n", 2, "'subs' is a step of a job without subjobs"),
     ("job a\ncommit\njob b a\ncommit\n", 1, "the job has subjobs and no step 'subs'"),
-    ("job a\nmakedir /a\n", 2, "not a step: no call has this name and these words"),
-    ("job a\nopen q /a\n", 2, "not a step: no call has this name and these words"),
+    ("job a\nmakedir /a\n", 2, NO_STEP),
+    ("job a\nopen q /a\n", 2, NO_STEP),
     ("job a\nmkdir /a\nclose @1\n", 3, NOT_OPENED),
     ("job a\nclose @2\nopen wc /a\n", 2, NOT_OPENED),
-    ("job a\nclose @x\n", 2, "not a step: no call has this name and these words"),
+    ("job a\nclose @x\n", 2, NOT_OPENED),
+    ("job a\nopen wc /a as x\ncommit\njob b\nclose @x\n", 5, NOT_OPENED),
+    ("job a\nopen wc /a as x\nclose @X\n", 3, NOT_OPENED),
+    ("job a\nwrite @x b\nopen wc /a as x\n", 2, NOT_OPENED),
+    ("job a\nopen wc /a as 1x\n", 2, NO_STEP),
+    ("job a\nopen q /a as x\n", 2, NO_STEP),
+    ("job a\nmkdir /a as x\n", 2, NO_STEP),
+    ("job a\nopen wc /a as x\nwrite @x b as c\n", 3, NO_STEP),
     ("strict\njob a\ntry\n", 3, "only a call may come after 'try'"),
+    (LONG, None, TOO_LONG),
+    ("#" * 8_388_609, None, TOO_LONG),
 ]
 
 
@@ -68,6 +83,7 @@ def tests():
     plans = [
         ("strict plans keep their rules", strict_plans),
         ("a contended plan loses no job", contended_plan),
+        ("names of steps mean their numbers", named_steps),
     ]
     return [*plans, *mistakes]
 
@@ -77,7 +93,7 @@ def named_lines(bench):
         ran, name = run_text(bench, text)
         place = name if line is None else f"{name}:{line}"
         if (ran.status, ran.errors) != (1, f"ft: {place}: {why}\nfault: BadPlan\n".encode()):
-            return f"{text!r}: {ran}"
+            return f"{text[:99]!r}: {ran}"
     return None
 
 
@@ -96,8 +112,43 @@ def any_lines(bench):
     return None
 
 
+def named_steps(bench):
+    """Plans whose steps have names, and the same with numbers: one thread makes the same of both."""
+    for seed in range(TIMES):
+        texts = two_texts(random.Random(seed))
+        numbers, names = (run_text(bench, text, ("--threads", "1"))[0] for text in texts)
+        if (names.status, names.text, names.errors) != (0, numbers.text, b"") or numbers.status:
+            return f"seed {seed}: {texts}: {numbers}, {names}"
+    return None
+
+
+def two_texts(chance):
+    """Some jobs by chance, with the numbers of their steps and with names in place of them."""
+    numbers, names = [], []
+    for job in range(chance.randint(1, 3)):
+        heads = [f"job j{job}", *["# no step"] * chance.randint(0, 1)]
+        steps = two_steps(chance)
+        numbers += [*heads, *[number for number, _ in steps], "commit"]
+        names += [*heads, *[name for _, name in steps], "", "commit"]
+    return "\n".join(numbers) + "\n", "\n".join(names) + "\n"
+
+
+def two_steps(chance):
+    """Steps that open files, or use what was opened: each with a number, and with a name."""
+    steps, opened = [], {}
+    while len(steps) < 12:
+        name, path = chance.choice("abc"), chance.choice(PATHS)
+        if name in opened and chance.random() < 0.7:
+            call = chance.choice(("read @{} 9", "write @{} x", "fstat @{}"))
+            steps.append((call.format(opened[name]), call.format(name)))
+        else:
+            steps.append((f"open rwc {path}", f"open rwc {path} as {name}"))
+            opened[name] = len(steps)
+    return steps
+
+
 def run_text(bench, text, words=()):
-    """Runs the jobs of a text. What came of it, and the name of the file."""
+    """Runs the jobs of a text. Returns what came of it, and the name of the file."""
     with tempfile.NamedTemporaryFile(suffix=".plan") as file:
         file.write(text.encode())
         file.flush()

@@ -47,5 +47,5 @@ def fault_of_end(ran, wanted, name):
 
 
 def shown(text):
-    """The end of a text, as it is said where something is wrong."""
+    """The end of a text, as it is shown if something is wrong."""
     return repr(text) if len(text) < 200 else f"{len(text)} bytes that end in {text[-100:]!r}"

@@ -16,7 +16,7 @@ ACCESS = {"r": os.O_RDONLY, "w": os.O_WRONLY, "rw": os.O_RDWR}
 FLAGS = {"c": os.O_CREAT, "x": os.O_EXCL, "t": os.O_TRUNC, "a": os.O_APPEND}
 WHENCE = {"set": os.SEEK_SET, "cur": os.SEEK_CUR, "end": os.SEEK_END}
 
-# What the operating system is asked otherwise, so that both go on with the same tree.
+# Calls that the operating system gets in another form, so that both go on with the same tree.
 CUT_WITHOUT_WRITING = "cut without writing"
 OPENED_DIRECTORY = "directory is opened for reading"
 PLACED_WRITE_APPENDS = "pwrite with append"
@@ -29,7 +29,7 @@ LINK_OWNER = "another owner or group of a link"
 CUT_TO_ITS_SIZE = "truncate to the size that it has"
 OTHERS_IN_STICKY = "open that may make a file of another in a sticky directory"
 
-# What it was not asked otherwise, but that has come of a link, of its clock, or of a link's time.
+# Calls that it got in the same form, but that differ by a link, by its clock, or by a link's time.
 LED_TO_SLASH = "a slash behind a target"
 TIME_OF_CLOCK = "a time that was not set"
 LINK_TIME = "the time of a link"
@@ -41,7 +41,7 @@ FOLLOWING = ["open", "truncate", "stat", "list", "chmod", "chown", "utime"]
 def enter(folder):
     """Makes a folder the root; files there have at most the bytes that they have in a tree.
 
-    What is made has the mode that is asked for.
+    Each file or directory that is made has the requested mode.
     """
     os.chroot(folder)
     os.chdir("/")

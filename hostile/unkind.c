@@ -54,7 +54,7 @@ struct counts {
   struct note note[MOST_NOTES];
 };
 
-/* Which of the things of a kind are met: one, or all from it on; none where number is 0. */
+/* The things of a kind that are met: one, or all from it on; none if number is 0. */
 struct which {
   uint64_t number;
   int is_on;
@@ -138,7 +138,7 @@ __attribute__((constructor)) static void begin(void) {
   is_ready = 1;
 }
 
-/* A thread whose work has ended may have some instructions left when the program ends: where all
+/* A thread whose work has ended may have some instructions left when the program ends: if all
    have begun, these are waited for. A thread that the program does not wait for has not begun. */
 __attribute__((destructor)) static void wait_for_threads(void) {
   int left = MOST_MILLISECONDS;
@@ -234,7 +234,7 @@ ssize_t write(int file, const void *bytes, size_t size) {
 ssize_t __read(int, void *, size_t) __attribute__((alias("read")));
 ssize_t __write(int, const void *, size_t) __attribute__((alias("write")));
 
-/* What a thread is started with, so that its end can be counted. */
+/* The arguments with which a thread is started, so that its end can be counted. */
 struct start {
   void *(*run)(void *);
   void *with;

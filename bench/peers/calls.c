@@ -5,12 +5,12 @@
 #include "paths.h"
 #include "tree.h"
 
-/* Where a path leads: to a node, or to a name that there is not. */
+/* The end of a path: a node, or a name that does not exist. */
 struct place {
-  struct node *directory; /* in which the last name stands; NULL where the path has none */
+  struct node *directory; /* the one that the last name is in; NULL if the path has none */
   struct bytes name;
-  struct entry *entry; /* NULL where there is none, or the last name is a dot or two */
-  struct node *node;   /* NULL where there is none */
+  struct entry *entry; /* NULL if there is none, or if the last name is one or two dots */
+  struct node *node;   /* NULL if there is none */
 };
 
 /* Goes on from the place to a name. */
@@ -87,7 +87,7 @@ static struct answer close_number(struct tree *tree, uint64_t number) {
   return done();
 }
 
-/* Reads at the offset of the request, or, where it has none, at that of the descriptor. */
+/* Reads at the offset of the request, or at that of the descriptor if the request has none. */
 static struct answer read_bytes(struct tree *tree, const struct request *request) {
   struct descriptor *descriptor = find_descriptor(tree, request->descriptor);
   if (descriptor == NULL || !(descriptor->mode & READS)) return failed("EBADF");
@@ -99,7 +99,7 @@ static struct answer read_bytes(struct tree *tree, const struct request *request
   return (struct answer){.data = {count > 0 ? file->bytes + offset : NULL, count}};
 }
 
-/* Writes at the offset of the request, or, where it has none, at that of the descriptor. */
+/* Writes at the offset of the request, or at that of the descriptor if the request has none. */
 static struct answer write_bytes(struct tree *tree, const struct request *request) {
   struct descriptor *descriptor = find_descriptor(tree, request->descriptor);
   if (descriptor == NULL || !(descriptor->mode & WRITES)) return failed("EBADF");
@@ -144,7 +144,7 @@ static struct answer unlink_path(struct tree *tree, struct bytes path) {
   return done();
 }
 
-/* Whether a directory is another one or stands below it. */
+/* Whether a directory is another one or is below it. */
 static bool is_inside(const struct node *directory, const struct node *other) {
   while (directory != other && directory != directory->parent) directory = directory->parent;
   return directory == other;

@@ -1,6 +1,6 @@
 /* The peer `lmdb`: the tree as keys and values in LMDB.
 
-   'd' and a number       a directory: the one in which it stands
+   'd' and a number       a directory: the one that it is in
    'e', a number, a name  an entry of a directory: where it leads
    'f' and a number       a file
    'b', a number, a piece PIECE bytes of a file, the last piece fewer
@@ -28,10 +28,10 @@ struct descriptor {
   uint64_t file, offset, mode;
 };
 
-/* Where a path leads. */
+/* The end of a path. */
 struct place {
-  uint64_t directory; /* in which the last name stands */
-  struct bytes name;  /* empty where the path has none, or ends in dots */
+  uint64_t directory; /* the one that the last name is in */
+  struct bytes name;  /* empty if the path has none, or ends in dots */
   bool is_there;
   struct entry entry;
 };
@@ -52,7 +52,7 @@ static bool find_record(char kind, uint64_t number, void *record, size_t size) {
   return true;
 }
 
-/* Gives a record its value behind a call; old and new are NULL for none. */
+/* Gives a record its value after a call; old and new are NULL for none. */
 static void change_record(char kind, uint64_t number, const void *old, const void *new,
                           size_t size) {
   struct key key = key_of(kind, number, NO_NAME);
@@ -103,7 +103,7 @@ static const char *walk(struct bytes path, struct place *place) {
   return error;
 }
 
-/* What calls answer. */
+/* The answers of calls. */
 
 static struct answer failed(const char *error) { return (struct answer){.error = error}; }
 
@@ -181,7 +181,7 @@ static struct key key_of_piece(uint64_t file, uint64_t piece) {
   return key_of('b', file, bytes_of(number, sizeof number));
 }
 
-/* Reads a piece of a file; answers how many bytes it has. */
+/* Reads a piece of a file; returns how many bytes it has. */
 static size_t read_piece(uint64_t file, uint64_t piece, unsigned char bytes[PIECE]) {
   struct key key = key_of_piece(file, piece);
   struct bytes value;
@@ -222,7 +222,7 @@ static void remove_pieces(uint64_t file, uint64_t size) {
   }
 }
 
-/* Reads bytes that the file has. A piece that is missing or short is of zeros behind its end. */
+/* Reads bytes that the file has. A piece that is missing or short has zeros after its end. */
 static struct bytes read_pieces(uint64_t file, uint64_t offset, size_t count) {
   static unsigned char bytes[MOST_FILE];
   for (size_t done = 0; done < count;) {
@@ -242,7 +242,7 @@ static struct bytes read_pieces(uint64_t file, uint64_t offset, size_t count) {
 
 /* Files and descriptors. */
 
-/* Gives a file another record, or none where it has neither name nor descriptor. */
+/* Gives a file another record, or none if it has neither name nor descriptor. */
 static void change_file(uint64_t number, const struct file *old, const struct file *new) {
   bool stays = new->links > 0 || new->descriptors > 0;
   if (!stays) remove_pieces(number, old->size);
@@ -301,7 +301,7 @@ static struct answer close_number(uint64_t number) {
   return done();
 }
 
-/* Reads at the offset of the request, or, where it has none, at that of the descriptor. */
+/* Reads at the offset of the request, or at that of the descriptor if the request has none. */
 static struct answer read_bytes(const struct request *request) {
   struct descriptor old, new;
   struct file file = {0};
@@ -327,7 +327,7 @@ static void write_at(uint64_t number, const struct file *old, uint64_t offset, s
   }
 }
 
-/* Writes at the offset of the request, or, where it has none, at that of the descriptor. */
+/* Writes at the offset of the request, or at that of the descriptor if the request has none. */
 static struct answer write_bytes(const struct request *request) {
   struct descriptor old, new;
   struct file file = {0};
@@ -392,7 +392,7 @@ static struct answer unlink_path(struct bytes path) {
 
 /* Renaming. */
 
-/* Whether a directory is another one or stands below it. */
+/* Whether a directory is another one or is below it. */
 static bool is_inside(uint64_t directory, uint64_t other) {
   while (directory != other && directory != 1) directory = parent_of(directory);
   return directory == other;

@@ -1,9 +1,9 @@
 /* measured SCRIPT WAY PROGRAM WORDS..: runs a program with a script as its standard input, and
    prints how many microseconds of the processor it took, user and system, and how many KiB of
-   memory it had at most. What it writes goes to /dev/null, or, where WAY is `pipe`, through a pipe.
+   memory it had at most. Its output goes to /dev/null, or through a pipe if WAY is `pipe`.
 
-   It is a small program of its own since the memory of who starts a program counts as that of the
-   program until it runs. */
+   It is a small program of its own, since the memory of the process that starts a program counts
+   as that of the program until it runs. */
 #define _GNU_SOURCE
 #include <fcntl.h>
 #include <stdio.h>

@@ -1,5 +1,5 @@
-/* What the peers have in common: they play a script as `ft play` does, and write replies as it
-   does. What transactions and calls do is a peer's own: the functions at the end. */
+/* The part that the peers share: they play a script as `ft play` does, and write replies as it
+   does. Each peer has its own transactions and calls: the functions at the end. */
 #ifndef PLAY_H
 #define PLAY_H
 
@@ -49,7 +49,7 @@ struct request {
   unsigned mode;
 };
 
-/* What a call answers: the name of an error, or NULL and what its kind of call tells. */
+/* The answer of a call: the name of an error, or NULL and the result of its kind of call. */
 struct answer {
   const char *error;
   uint64_t number; /* the descriptor that was opened, or how many bytes were written */
@@ -60,7 +60,7 @@ struct answer {
   } facts;
 };
 
-/* One name that `list` answers; they are told in the order of their bytes. */
+/* One name that `list` returns; the names come in the order of their bytes. */
 void add_name(struct bytes name, bool is_directory);
 
 /* Ends the program, with a word on why. */
@@ -70,12 +70,12 @@ _Noreturn void stop(const char *why);
 void *memory(size_t size);
 void *more_memory(void *old, size_t size);
 
-/* What a peer does. Transactions are numbered from 1; a parent of 0 is none. */
+/* The functions of a peer. Transactions are numbered from 1; a parent of 0 is none. */
 void start(void);
 void begin(uint64_t transaction, uint64_t parent);
 void commit(uint64_t transaction);
 void abort_transaction(uint64_t transaction);
-uint64_t undo(uint64_t transaction); /* the stamp of the call that is taken back */
+uint64_t undo(uint64_t transaction); /* the stamp of the call that is undone */
 struct answer call(const struct request *request, uint64_t stamp);
 
 #endif

@@ -12,7 +12,7 @@
 #define MOST_LAYERS 65 /* a script nests transactions 64 deep */
 #define ABSENT SIZE_MAX
 
-/* A value before a change, behind its key, or no value (ABSENT); of no key, a mark of a call. */
+/* A value before a change, after its key, or no value (ABSENT); without a key, a mark of a call. */
 struct past {
   struct past *older;
   uint64_t stamp;
@@ -142,7 +142,7 @@ static void drop_log(struct transaction *transaction) {
   for (struct past *past; (past = take_newest(transaction)) != NULL;) free(past);
 }
 
-/* Takes back the newest change of a transaction. */
+/* Undoes the newest change of a transaction. */
 static void take_back(struct transaction *transaction) {
   struct past *past = take_newest(transaction);
   if (past->key_length > 0)
@@ -226,7 +226,7 @@ void begin_call(uint64_t transaction, uint64_t stamp) {
   if (caller->layer != depth) layers[depth].is_shared = true;
 }
 
-/* A call that changes nothing can be taken back too. */
+/* A call that changes nothing can be undone too. */
 void end_call(void) {
   if (caller->newest == NULL || caller->newest->stamp != caller_stamp) note_past(NULL, 0, NULL);
 }

@@ -34,7 +34,7 @@ void write_replies(void) {
   replies_length = 0;
 }
 
-/* Where so many bytes of a reply can be put. */
+/* A place for so many bytes of a reply. */
 static unsigned char *room_for(size_t count) {
   if (PIECE - replies_length < count) write_replies();
   return replies + replies_length;
@@ -80,12 +80,12 @@ void put_coded(struct bytes text) {
   }
 }
 
-/* Lines. What was read and not yet taken stands in input from taken to filled. */
+/* Lines. The bytes that were read and not yet taken are in input, from taken to filled. */
 
 static unsigned char *input;
 static size_t taken, filled, input_room;
 
-/* Reads more behind what is there; false at the end. */
+/* Reads more after what is there; false at the end. */
 static bool read_more(void) {
   write_replies();
   if (taken > 0) {
@@ -120,7 +120,7 @@ static bool next_line(unsigned char **line, unsigned char **end) {
 
 /* Words. */
 
-/* Takes the word that a line begins with, and the space behind it. */
+/* Takes the word that a line begins with, and the space after it. */
 static struct bytes take_word(unsigned char **line, unsigned char *end) {
   unsigned char *space = memchr(*line, ' ', (size_t)(end - *line));
   struct bytes word = {*line, (size_t)((space != NULL ? space : end) - *line)};
@@ -144,7 +144,7 @@ static int digit_of(unsigned char byte) {
   return byte >= 'a' && byte <= 'f' ? byte - 'a' + 10 : -1;
 }
 
-/* Decodes a word where it stands. */
+/* Decodes a word in place. */
 static struct bytes decoded(struct bytes word) {
   unsigned char *to = memchr(word.at, '%', word.length);
   if (to == NULL) return word;
@@ -169,9 +169,8 @@ static unsigned mode_of(struct bytes word) {
   return mode;
 }
 
-/* The requests that there are, each with what stands behind its first word: a transaction (T), a
-   path (P), a second one (Q), a mode (M), a descriptor (F), an offset (I), a count (N) or data
-   (D). */
+/* All requests, each with what comes after its first word: a transaction (T), a path (P), a
+   second one (Q), a mode (M), a descriptor (F), an offset (I), a count (N) or data (D). */
 static const struct shape {
   char word[8];
   enum verb verb;

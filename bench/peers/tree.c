@@ -231,7 +231,7 @@ void empty_file(struct tree *tree, struct node *file) {
   file->size = 0;
 }
 
-/* What becomes of changes. */
+/* The ends of changes. */
 
 void take_back(struct tree *tree, struct change *change) {
   switch (change->kind) {

@@ -44,7 +44,7 @@ struct descriptor {
 
 enum change_kind { NONE, ENTRY_ADDED, ENTRY_REMOVED, OPENED, CLOSED, MOVED, WRITTEN };
 
-/* How one change is taken back. */
+/* The way to undo one change. */
 struct change {
   struct change *older; /* in the log */
   uint64_t stamp;       /* of the call */
@@ -80,10 +80,10 @@ struct tree {
 
 void make_tree(struct tree *tree);
 
-/* What a call does to the tree and answers (calls.c). */
+/* Makes a call on the tree, and returns its answer (calls.c). */
 struct answer call_on(struct tree *tree, const struct request *request);
 
-/* What calls are made of. */
+/* The parts of calls. */
 struct entry *find_entry(const struct tree *tree, const struct node *directory, struct bytes name);
 struct descriptor *find_descriptor(struct tree *tree, uint64_t number);
 struct node *make_node(struct tree *tree, bool is_directory);
@@ -95,7 +95,7 @@ void move_descriptor(struct tree *tree, struct descriptor *descriptor, uint64_t 
 void write_file(struct tree *tree, struct node *file, size_t offset, struct bytes data);
 void empty_file(struct tree *tree, struct node *file);
 
-/* What a log is for. A change that is taken back or dropped is freed. */
+/* The uses of a log. A change that is undone or dropped is freed. */
 struct change *note(struct tree *tree, enum change_kind kind, size_t old_bytes);
 void take_back(struct tree *tree, struct change *change);
 void drop_change(struct change *change);

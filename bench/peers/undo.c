@@ -1,6 +1,6 @@
 /* The peer `undo`: the same tree, with nested transactions. Each has a log of its changes, which it
-   hands to the one around it where it commits, and by which it takes them back where it aborts.
-   Nothing is locked, so that calls are made whoever has changed what they look at. */
+   hands to the one around it if it commits, and by which it undoes them if it aborts.
+   Nothing is locked, so calls are made no matter who has changed what they look at. */
 #include <stdlib.h>
 
 #include "tree.h"
@@ -65,6 +65,6 @@ struct answer call(const struct request *request, uint64_t stamp) {
   tree.stamp = stamp;
   struct answer answer = call_on(&tree, request);
   if (tree.log->newest == NULL || tree.log->newest->stamp != stamp)
-    note(&tree, NONE, 0); /* a call that changes nothing can be taken back too */
+    note(&tree, NONE, 0); /* a call that changes nothing can be undone too */
   return answer;
 }

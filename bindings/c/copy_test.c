@@ -35,7 +35,7 @@
 
 /* ---- functions of the system, before each of which something may happen */
 
-/* What is done before a function of the system; 0, or the errno with which it is to fail. */
+/* Runs before a function of the system; returns 0, or the errno with which that is to fail. */
 static int (*before)(const char *function, int folder, const char *name);
 
 static bool goes_wrong(const char *function, int folder, const char *name) {
@@ -498,7 +498,7 @@ static bool file_above_the_limit_is_told(void) {
 
 /* ---- names that change between the look at them and their opening */
 
-/* What is to be swapped with what, right before one of these functions is called with its name. */
+/* The two names to swap, right before one of these functions is called with the first one. */
 static struct {
     const char *functions, *name, *with;
     unsigned times;

@@ -25,7 +25,7 @@ static uint32_t play(nuz_tree *tree, const char *line) {
     return nuz_request(tree, NUZ_S(line), NULL, 0, &answer);
 }
 
-/* Carries out lines, with a semicolon behind each: none is refused. */
+/* Carries out lines, with a semicolon after each: none is refused. */
 static bool carries_out(nuz_tree *tree, const char *lines) {
     bool is_good = true;
     for (const char *at = lines; is_good && *at != '\0';) {
@@ -37,14 +37,14 @@ static bool carries_out(nuz_tree *tree, const char *lines) {
     return is_good;
 }
 
-/* What each tree begins with. */
+/* The first lines of each tree. */
 #define BEGUN "begin;1 mkdir /d;1 mkdir /e;commit 1;"
 
 static bool opened(nuz_tree **tree, uint32_t options, const char *lines) {
     return nuz_tree_open(tree, options) == 0 && carries_out(*tree, lines);
 }
 
-/* Whether a line of a transaction waits, for one other alone. */
+/* Whether a line of a transaction waits, and for one other only. */
 static bool is_held(nuz_tree *tree, const char *line, uint64_t other) {
     bool is_retry = strncmp(line, "retry ", 6) == 0;
     uint64_t txn = strtoull(is_retry ? line + 6 : line, NULL, 10), blocker = 0;
@@ -92,7 +92,7 @@ static bool turns_begin_and_end_at_any_time(void) {
     return true;
 }
 
-/* Whoever makes a name is held back by nobody who makes another one, here or elsewhere. */
+/* A call that makes a name is not held back by calls that make other names, here or elsewhere. */
 static bool nobody_waits_without_need(void) {
     nuz_tree *t;
     CHECK(opened(&t, NUZ_FAIR, BEGUN "begin;begin;begin;begin;2 list /d;3 open wc /d/a;"));
@@ -104,7 +104,7 @@ static bool nobody_waits_without_need(void) {
     return true;
 }
 
-/* A job, its step and a reader: neither of the first two waits behind the other. */
+/* A job, its step and a reader: neither of the first two waits for the other's turn. */
 static bool related_ones_are_not_held_back(void) {
     nuz_tree *t;
     CHECK(opened(&t, NUZ_FAIR, BEGUN "begin;begin;sub 3;sub 3;2 list /d;4 mkdir /d/s;"));
@@ -118,7 +118,7 @@ static bool related_ones_are_not_held_back(void) {
     return true;
 }
 
-/* Who waits for the one that asks, directly or through another one. */
+/* A call does not wait for the turn of one that waits for its own transaction, directly or not. */
 static bool who_waits_for_the_asker_is_passed(void) {
     nuz_tree *t;
     CHECK(opened(&t, NUZ_FAIR, BEGUN "begin;begin;2 mkdir /d/t;3 list /d;"));
@@ -132,8 +132,8 @@ static bool who_waits_for_the_asker_is_passed(void) {
     return true;
 }
 
-/* 2 waits in turn behind 4, which waits for a lock of 3. When 3 comes to wait for a lock of 2, that
- * is no deadlock: 2 waits no more. */
+/* 2 waits for the turn of 4, which waits for a lock of 3. When 3 comes to wait for a lock of 2,
+ * that is no deadlock: 2 waits no more. */
 static bool ring_through_a_turn_is_no_deadlock(void) {
     nuz_tree *t;
     uint64_t txns[3] = { 0 };
@@ -161,7 +161,7 @@ static bool turn_of_one_that_gives_up_is_gone(void) {
     return true;
 }
 
-/* Two that would make the same directory, behind a reader. */
+/* Two that would make the same directory, and wait for a reader. */
 #define MAKERS BEGUN "begin;begin;begin;2 list /d;3 mkdir /d/x;4 mkdir /d/x;"
 
 static bool same_call_keeps_its_turn(void) {
@@ -364,7 +364,7 @@ static bool time_that_is_over_frees_the_next(void) {
     return true;
 }
 
-/* 4 waits behind 2, which waits for 3. That 3 would wait for 2 is a deadlock, of which 3 is told. */
+/* 4 waits for the turn of 2, which waits for 3. If 3 then needs a lock of 2, it is a deadlock. */
 static bool deadlock_is_told_at_once(void) {
     CHECK(shared_with(BEGUN "begin;begin;begin;2 mkdir /d/a;3 mkdir /e/b;"));
     call first = { 2, "2 rename /e/b /c", LONG, .answer = { 0 } };

@@ -153,7 +153,7 @@ static void end_step(job *job) {
     job->step = 0;
 }
 
-/* Takes back the step at which the job is, and says at which line, and why. */
+/* Undoes the step at which the job is, and prints the line and the reason. */
 static void fail_step(job *job, const char *word, const char *path, uint32_t code) {
     nuz_answer aborted;
     uint32_t refused = nuz_abort(job->tree, job->step, &aborted);

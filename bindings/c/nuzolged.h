@@ -56,6 +56,14 @@ extern "C" {
 #define NUZ_VERSION "0.1.0"
 #define NUZ_VERSION_NUMBER 1000
 
+/* Marks a function that returns its code, and fills in no answer. gcc and clang warn if a program
+ * drops the code. */
+#if defined(__GNUC__)
+#define NUZ_MUST_USE __attribute__((warn_unused_result))
+#else
+#define NUZ_MUST_USE
+#endif
+
 /* A tree with its transactions. A program has only pointers to it. */
 typedef struct nuz_tree nuz_tree;
 
@@ -200,11 +208,13 @@ uint32_t nuz_version(void);
  * @param tree receives the tree, which the caller closes, or null if there is none. Its previous
  * value does not matter
  * @param options any of NUZ_MOSS and NUZ_FAIR, or 0 */
+NUZ_MUST_USE
 uint32_t nuz_tree_open(nuz_tree **tree, uint32_t options);
 
 /** The same with these limits, which last, even through checkpoints. Also returns NUZ_BAD_LIMITS if
  * the options are valid and a limit is above the greatest.
  * @param limits what the tree allows, each at most the greatest */
+NUZ_MUST_USE
 uint32_t nuz_tree_open_with(nuz_tree **tree, uint32_t options, const nuz_limits *limits);
 
 /** Mixes a number into the hashes by which the tree finds names. Anyone who can't guess the number
@@ -217,7 +227,7 @@ void nuz_tree_seed(nuz_tree *tree, uint64_t seed);
  * for each transaction whose waiting call is older and conflicts with it. So a call that writes is
  * not passed by one reader after another. A call never waits in turn for the caller, for a
  * transaction above or below it, or for one that waits for the caller, directly or through others.
- * If an older one comes to wait for the caller, the next nuz_retry of the caller no longer waits
+ * If an older one begins to wait for the caller, the next nuz_retry of the caller no longer waits
  * for that one. So to wait in turn closes no deadlock.
  *
  * A call is as old as its first request that had to wait. It stays so if its transaction retries it

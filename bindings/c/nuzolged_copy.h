@@ -74,6 +74,7 @@ typedef struct nuz_copy_failure {
  * @param len how many bytes path has
  * @param options how the copy is made; NULL for no flags and no around
  * @param failure the reason, if the function does not return 0; or NULL */
+NUZ_MUST_USE
 uint32_t nuz_copy_in(nuz_tree *tree, uint64_t txn, const char *disk, const void *path,
                      size_t len, const nuz_copy_options *options, nuz_copy_failure *failure);
 
@@ -103,6 +104,7 @@ uint32_t nuz_copy_in(nuz_tree *tree, uint64_t txn, const char *disk, const void 
  * @param disk the directory of the disk: its last name is neither . nor .., or is EINVAL
  * @param options how the copy is made; NULL for no flags and no around
  * @param failure the reason, if the function does not return 0; or NULL */
+NUZ_MUST_USE
 uint32_t nuz_copy_out(nuz_tree *tree, uint64_t txn, const void *path, size_t len,
                       const char *disk, const nuz_copy_options *options,
                       nuz_copy_failure *failure);

@@ -39,6 +39,7 @@ typedef struct nuz_shared_copy {
  * nuz_shared_fair says. Returns 0, or NUZ_MEMORY: then nothing has changed.
  * @param shared receives the shared tree, which the caller closes, or null
  * @param tree an open tree */
+NUZ_MUST_USE
 uint32_t nuz_shared_open(nuz_shared **shared, nuz_tree *tree);
 
 /** Frees a shared tree with its tree. No thread uses it any more. If shared is null, it does

@@ -1,5 +1,5 @@
-/* What a transaction has touched, as nuzolged_touched.h says: put together from its locks and the
- * names of the tree. */
+/* The list of what a transaction has touched, as nuzolged_touched.h says: put together from its
+ * locks and the names of the tree. */
 #include <nuzolged_touched.h>
 
 #include <stdlib.h>

@@ -32,7 +32,7 @@ static pthread_barrier_t meeting;
 static _Thread_local bool has_met;
 
 /* Ends a request that was begun with the lock: waits until its call is carried out, and gives the
- * lock back. Returns the code. What the call reads goes to the buffer. */
+ * lock back. Returns the code. The bytes that the call reads go to the buffer. */
 static uint32_t carried_out(uint32_t code, uint64_t txn, void *buffer, size_t room,
                             nuz_answer *answer) {
     nuz_answer told;

@@ -60,8 +60,8 @@ uint32_t make_getattr(struct request *request) {
 
 /* ---- setting attributes
  *
- * What has the value already is not set, so that steps that say the same don't wait for each other:
- * tar sets mode and owner of each directory on the way. */
+ * An attribute that has the value already is not set, so that steps that set the same don't wait
+ * for each other: tar sets mode and owner of each directory on the way. */
 
 static uint32_t set_mode(struct node *node, uint32_t mode) {
     nuz_answer answer = { 0 };

@@ -56,13 +56,13 @@ void stale_node(struct stale *stale, struct node *node) {
     }
 }
 
-/* What a name in a directory leads to, or that there is none, and the list of the names. */
+/* All that the kernel keeps of a name in a directory, and of the list of its names. */
 void stale_name(struct stale *stale, struct node *dir, const char *name) {
     add(stale, dir, copy_of(name));
     stale_node(stale, dir);
 }
 
-/* Tells the kernel of what may be locked, or of all else. (What it does not know is forgotten.) */
+/* Notifies the kernel of what may be locked, or of all else. (It forgets what it does not know.) */
 static void tell(const struct stale *stale, bool is_locked) {
     for (size_t i = 0; i < stale->count; i++) {
         const struct item *item = &stale->items[i];

@@ -191,7 +191,7 @@ static void on_statfs(fuse_req_t fuse, fuse_ino_t inode) {
     serve(&(struct request){ fuse, make_statfs, .node = node_at(inode) });
 }
 
-/* What is not here the kernel does itself, or refuses: extended attributes, fallocate,
+/* The kernel does what is not here by itself, or refuses it: extended attributes, fallocate,
  * copy_file_range, SEEK_DATA, locks, fsync. There is no flush, so that no close waits for one: a
  * file gets its time when it is released. */
 const struct fuse_lowlevel_ops operations = {

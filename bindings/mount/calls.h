@@ -11,7 +11,7 @@
 /* The most bytes of a request. */
 enum { MOST_BYTES = 1 << 20 };
 
-/* What the kernel keeps of an open file: whether it may be written. */
+/* The value that the kernel keeps of an open file: whether it may be written. */
 enum { READS = 0, WRITES = 1 };
 
 /* ---- attributes.c */
@@ -28,7 +28,7 @@ uint32_t learn(struct node *node);
  * not root changes its bytes. */
 uint32_t take_set_id(struct node *node);
 
-/* What stat shows of a node: DIR and the control file are such too. */
+/* The status of a node, as stat shows it: DIR and the control file are nodes too. */
 void any_status(const struct node *node, struct stat *status);
 
 /* ---- names.c */

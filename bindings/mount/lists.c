@@ -105,7 +105,7 @@ static bool add(struct entries *entries, const char *name, const struct stat *st
     return true;
 }
 
-/* What is known of a name without a call: its kind, and its number if the kernel has asked. */
+/* The status of a name without a call: its kind, and its number if the kernel has asked. */
 static struct stat status_of(const struct node *dir, const char *name, char kind) {
     const struct node *node = dir == &served.top ? NULL : name_find(dir, name);
     mode_t mode = kind == NUZ_DIR ? S_IFDIR : kind == NUZ_FILE ? S_IFREG : S_IFLNK;

@@ -13,7 +13,7 @@
 
 /* ---- what is left out */
 
-/* What a tree does not hold of a file. */
+/* The parts of a file that a tree does not hold. */
 enum kind { ATTRIBUTES, ACLS, CAPABILITIES, LABELS, HOLES, KINDS };
 
 static const char *const told_of[KINDS] = {
@@ -89,7 +89,7 @@ static void note_all(struct lost lost[KINDS], char *folder) {
     }
 }
 
-/* Tells what of a folder is left out, and of how many files. */
+/* Reports what of a folder is left out, and of how many files. */
 static void tell_lost(const char *folder) {
     struct lost lost[KINDS] = { { 0 } };
     char *top = copy_of(folder);

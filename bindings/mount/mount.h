@@ -57,7 +57,7 @@ struct name {
     char text[];
 };
 
-/* What the mount remembers of a file's stat, as its step saw it. */
+/* The part of a file's stat that the mount remembers, as its step saw it. */
 struct told {
     uint32_t kind, mode, owner, group;
     uint64_t links, size;
@@ -111,14 +111,14 @@ struct timespec now(void);
 
 /* ---- steps (steps.c) */
 
-/* What a step has changed: what a name leads to, by numbers (0: to nothing), or, with no name, a
- * file's bytes or attributes. */
+/* A change by a step: what a name leads to, by numbers (0: to nothing), or, with no name, a file's
+ * bytes or attributes. */
 struct change {
     char *name;
     uint64_t dir, before, after;
 };
 
-/* The beginning of a change that can be undone alone. */
+/* The beginning of a change that can be undone by itself. */
 struct mark {
     uint64_t stamp; /* of its first call */
     size_t change;  /* the first of its changes */

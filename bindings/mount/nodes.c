@@ -1,5 +1,5 @@
-/* What the kernel knows: directories, files and links of each step, by their numbers in the tree,
- * and the names by which they are known. */
+/* The nodes that the kernel knows: directories, files and links of each step, by their numbers in
+ * the tree, and the names by which they are known. */
 #include "mount.h"
 
 #include "commands.h"
@@ -151,7 +151,7 @@ static void name_remove(struct name *name) {
     node_free_if_unknown(dir);
 }
 
-/* What a name of a directory is known to lead to, or NULL. */
+/* The node that a name of a directory is known to lead to, or NULL. */
 struct node *name_find(const struct node *dir, const char *text) {
     struct name *name = name_at(dir, text);
     return name == NULL ? NULL : name->node;

@@ -14,7 +14,7 @@
 #include <sys/wait.h>
 #include <unistd.h>
 
-/* What has failed between fork and exec. */
+/* A failure between fork and exec. */
 struct report {
     int number;
     char what[12];

@@ -171,7 +171,7 @@ static void serve_requests(void) {
     free(buffer.mem);
 }
 
-/* Lets the terminal go, and the current directory, which could not be unmounted else. */
+/* Releases the terminal, and the current directory, which could not be unmounted else. */
 static bool go_behind(void) {
     int null = open("/dev/null", O_RDWR | O_CLOEXEC);
     bool is_behind = null >= 0 && dup2(null, STDIN_FILENO) >= 0 && dup2(null, STDOUT_FILENO) >= 0

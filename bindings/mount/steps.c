@@ -128,7 +128,7 @@ static void add_change(struct step *step, struct change change) {
     step->changes[step->change_count++] = change;
 }
 
-/* Begins a change that can be undone alone, unless it goes on with what is open for writing. */
+/* Begins a change that can be undone by itself, unless it goes on with what is open for writing. */
 static void begin_change(struct step *step, uint64_t stamp) {
     if (step->writers > 0) {
         bool goes_on = step->opened != 0 && step->mark_count > 0
@@ -350,7 +350,7 @@ static uint32_t begin_anew(nuz_answer *answer) {
     return nuz_begin(served.tree, answer);
 }
 
-/* What the kernel knows of the job stays true, and so do its descriptors. */
+/* Commits the job. The kernel's knowledge of it stays true, and its descriptors stay open. */
 static uint32_t job_commit(struct step *job) {
     nuz_answer answer;
     uint32_t code = nuz_commit(served.tree, job->txn, &answer);
@@ -424,7 +424,7 @@ static bool is_open_since(const struct step *step, uint64_t stamp) {
     return node != NULL;
 }
 
-/* Lets go of descriptors that are not there any more, which no program has open. */
+/* Releases descriptors that are not there any more, which no program has open. */
 static void let_closed_go(struct step *step, uint64_t stamp) {
     struct node *node = step->open;
     while (node != NULL) {

@@ -78,7 +78,7 @@ static bool takes(struct target *target) {
 
 /* ---- the lock of its name */
 
-/* Which byte of a directory is locked for a name in it. */
+/* The byte of a directory that is locked for a name in it. */
 static off_t byte_of(const char *name) {
     uint64_t hash = UINT64_C(0xcbf29ce484222325);
     while (*name != '\0') {
@@ -88,7 +88,8 @@ static off_t byte_of(const char *name) {
 }
 
 /* Locks a name, unless somebody else has; or if the disk has no such locks. (A directory is open
- * for reading alone, so that all have the locks of readers, and each looks whether it is alone.) */
+ * only for reading, so that all have the locks of readers, and each looks whether there is another
+ * one.) */
 static bool locks(int above, const char *name) {
     struct flock mine = {
         .l_type = F_RDLCK, .l_whence = SEEK_SET, .l_start = byte_of(name), .l_len = 1
@@ -104,8 +105,8 @@ static bool locks(int above, const char *name) {
     return false;
 }
 
-/* Locks a name until this process ends. (Two that begin at once may both find that they are not
- * alone, and try again after times that differ.) */
+/* Locks a name until this process ends. (Two that begin at once may both find another one, and try
+ * again after times that differ.) */
 static bool locks_in_time(int above, const char *name) {
     const struct timespec a_moment = { 0, 1000000 * (1 + getpid() * 7 % 13) };
     bool is_locked = locks(above, name);

@@ -20,7 +20,7 @@ static char *file_of(const char *path) {
     return file != NULL ? file : joined(path, "", "");
 }
 
-/* Which stream of this process a path names, as /dev/stdout and /dev/fd/3 do, or -1. */
+/* The stream of this process that a path names, as /dev/stdout and /dev/fd/3 do, or -1. */
 static int stream_of(const char *path) {
     int number, size = 0;
     if (strcmp(path, "/dev/stdout") == 0 || strcmp(path, "/dev/stderr") == 0) {

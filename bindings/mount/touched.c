@@ -45,7 +45,7 @@ uint32_t touched_manifest(uint64_t txn, struct touched *touched) {
 
 /* ---- names without a form */
 
-/* Whether a depfile can't have a name. It may have % in what is read alone. */
+/* Whether a depfile can't have a name. Only a name that is read may have %. */
 static bool has_no_form(char *name, bool is_target) {
     nuz_answer answer;
     for (char *at = name; !is_target && *at != '\0'; at++) {

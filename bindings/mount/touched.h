@@ -5,9 +5,9 @@
 #include <stddef.h>
 #include <stdint.h>
 
-/* What is asked of a depfile. */
+/* The requests for a depfile. */
 struct asked {
-    const char *top;    /* stands before each path, or NULL */
+    const char *top;    /* comes before each path, or NULL */
     const char *target; /* or NULL: what was written */
 };
 

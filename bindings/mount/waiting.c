@@ -228,7 +228,7 @@ int milliseconds_until(const struct timespec *until) {
     return left < 0 ? 0 : left > 60000 ? 60000 : (int)left + 1;
 }
 
-/* What a request ends with now, or 0; and in how many milliseconds it is to be looked at again. */
+/* The code with which a request ends now, or 0; and in how many milliseconds to look again. */
 static uint32_t look_at(struct request *request, int *again) {
     *again = served.has_limit ? milliseconds_until(&request->wait.until) : -1;
     if (*again == 0) {

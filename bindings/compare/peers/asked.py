@@ -17,7 +17,7 @@ import time
 from pathlib import Path
 from typing import Any, Callable
 
-#: What a call that undoes would have in its name.
+#: The words that the name of a call that undoes would have.
 WORDS_OF_UNDOING = ("abort", "commit", "rollback", "savepoint", "snapshot", "transaction", "undo")
 #: How long a step may take that blocks nobody.
 SECONDS = 2.0

@@ -72,7 +72,7 @@ func kept() {
 	say("kept", answer, fmt.Sprintf("0750 is %o, links: %v", told.Mode().Perm(), hasLinks))
 }
 
-// methods names the methods of a layer by which it could be merged, or tell of others.
+// methods names the methods of a layer by which it could be merged, or name others.
 func methods() (found []string) {
 	words := regexp.MustCompile("(?i)apply|block|commit|conflict|flush|lock|merge")
 	layer := reflect.TypeOf(&afero.CopyOnWriteFs{})

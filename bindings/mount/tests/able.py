@@ -1,4 +1,4 @@
-"""able.py: its status is 0 where a file system may be mounted by FUSE."""
+"""able.py: its status is 0 if a file system may be mounted by FUSE."""
 from __future__ import annotations
 
 import os

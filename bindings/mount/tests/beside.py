@@ -1,9 +1,8 @@
 """beside.py ONE OTHER [--seed S] [--count N]: random operations in two folders.
 
 Each operation is made in ONE and in OTHER, two empty folders, and has to have the same outcome in
-both: what it answers or its error. At the end the folders have to hold the same. What differs is
-printed, and then a line that says how many operations there were; the status is 0 where none
-differed.
+both: what it returns or its error. At the end the folders have to hold the same. Each difference is
+printed, and then a line that says how many operations there were; the status is 0 if none differed.
 """
 from __future__ import annotations
 
@@ -24,7 +23,7 @@ OPENED = (os.O_RDONLY, os.O_WRONLY, os.O_RDWR)
 ADDED = (0, 0, os.O_CREAT, os.O_CREAT, os.O_CREAT | os.O_EXCL, os.O_TRUNC, os.O_APPEND,
          os.O_CREAT | os.O_APPEND, os.O_CREAT | os.O_TRUNC, os.O_NOFOLLOW, os.O_DIRECTORY)
 NO_REPLACE = 1
-# the times that are set are before this one, and those of the clock are behind it
+# the times that are set are before this one, and those of the clock are after it
 FIRST_OF_CLOCK = 10**18
 LIBC = ctypes.CDLL(None, use_errno=True)
 
@@ -62,7 +61,7 @@ class Choice:
 
 
 def told(found: os.stat_result) -> tuple:
-    """What stat tells of a file. A directory and a link have no time, and any size."""
+    """The status of a file, from stat. A directory and a link have no time, and any size."""
     if stat.S_ISLNK(found.st_mode):
         return ("link",)
     shown = oct(found.st_mode), found.st_uid, found.st_gid
@@ -180,7 +179,7 @@ class Beside:
             self._one()
 
     def close(self) -> None:
-        """Closes all files. (One that could be opened in one folder alone is told already.)"""
+        """Closes all files. (One that could be opened in only one folder is already reported.)"""
         for root in self.roots:
             while root.open:
                 os.close(root.open.popitem()[1])

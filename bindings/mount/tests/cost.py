@@ -1,11 +1,11 @@
-"""cost.py [ROUNDS]: what tools cost in a step, beside a file system in memory.
+"""cost.py [ROUNDS]: what tools cost in a step, compared with a file system in memory.
 
     NUZ=bindings/out/nuz python3 bindings/mount/tests/cost.py
 
 The tools are tar, which unpacks 2,000 files, gcc, which compiles 20 files by make, and find, which
 looks at all that tar has unpacked. Each runs three times, or ROUNDS times, in a folder of /dev/shm
 and in a step of a mount of its own, and the least processor time is told: of the tool, and with it
-that of the process that serves the mount. Behind it stand how many calls of the tree were made and,
+that of the process that serves the mount. After it come how many calls of the tree were made and,
 if strace is there, how many requests of the kernel were answered (in a run of its own).
 """
 from __future__ import annotations

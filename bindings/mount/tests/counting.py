@@ -1,4 +1,4 @@
-"""counting.py NUZ MOUNT WORKER COUNT: counts in steps beside others, and prints how often.
+"""counting.py NUZ MOUNT WORKER COUNT: counts in steps alongside others, and prints how often.
 
 Each step reads one of three files, writes a number that is greater by one, and is committed, or
 aborted now and then. One that would close a cycle of waits is aborted and begun anew.

@@ -1,8 +1,8 @@
-/* Writes a file through memory alone, after its descriptor has been closed:
+/* Writes a file only through memory, after its descriptor has been closed:
  *
  *     mapped FILE TEXT HOW
  *
- * HOW says what comes then: 'unmap' lets the memory go, 'sync' writes it and lets it stay, 'exit'
+ * HOW says what comes then: 'unmap' unmaps the memory, 'sync' writes it and keeps it mapped, 'exit'
  * ends the process at once, and 'kill' kills it.
  */
 #include <fcntl.h>

@@ -1,4 +1,4 @@
-"""A mounted tree, what there is to tell of a folder, and processes that are killed half way."""
+"""A mounted tree, what a folder holds, and processes that are killed half way."""
 from __future__ import annotations
 
 import hashlib
@@ -46,7 +46,7 @@ def start(*words: object, **options) -> subprocess.Popen:
 
 
 def wait_until(holds: Callable[[], bool], seconds: float = AT_ONCE) -> bool:
-    """Whether something comes to hold in time."""
+    """Whether something becomes true in time."""
     end = time.monotonic() + seconds
     while not holds():
         if time.monotonic() > end:
@@ -55,7 +55,7 @@ def wait_until(holds: Callable[[], bool], seconds: float = AT_ONCE) -> bool:
     return True
 
 
-# ---- what there is to tell of a folder
+# ---- what a folder holds
 
 
 def told_of_bytes(path: str) -> str:
@@ -92,7 +92,7 @@ def told_of(top: object, timed: str | None = "") -> dict[str, tuple]:
 
 
 def difference(one: dict[str, tuple], other: dict[str, tuple]) -> str:
-    """Where two folders differ, or nothing."""
+    """The difference of two folders, or nothing."""
     paths = sorted(set(one) | set(other))
     lines = [f"{path}: {one.get(path)} and {other.get(path)}"
              for path in paths if one.get(path) != other.get(path)]
@@ -160,7 +160,7 @@ class Mount:
         self.job = top / "job"
 
     def begin(self, name: str) -> Path:
-        """Begins a step, and answers its folder."""
+        """Begins a step, and returns its folder."""
         os.mkdir(self.top / name)
         return self.top / name
 

@@ -10,7 +10,7 @@ from pathlib import Path
 
 import mounts
 
-# the status that tells of it
+# the status that reports it
 TRY_AGAIN = 75
 FAILED_FOR_IT = "a call has failed with EDEADLK"
 
@@ -42,7 +42,7 @@ class CycleTest(mounts.MountTest):
         return running
 
     def assert_ends(self, running: subprocess.Popen, status: int, said: str) -> str:
-        """A run ends with a status, and has said something. Answers what its command wrote."""
+        """A run ends with a status, and has printed something. Returns what its command wrote."""
         out, error = running.communicate(timeout=mounts.MOST_SECONDS)
         self.assertEqual(running.returncode, status, error)
         self.assertRegex(error, said)
@@ -80,7 +80,7 @@ class CycleTest(mounts.MountTest):
                 (mounted.begin("other") / "file").write_text("of other")
 
     def test_one_after_another(self) -> None:
-        """Those that the same step was in the way of are not in each other's way again."""
+        """Steps that the same step has blocked do not block each other again."""
         running = []
         for name, others in (("a", "other"), ("b", "other a"), ("c", "other a b")):
             running.append(self.start(name, "--retries", 1))

@@ -1,4 +1,4 @@
-"""Random operations in a step, beside the same ones on the disk."""
+"""Random operations in a step, compared with the same ones on the disk."""
 from __future__ import annotations
 
 import os
@@ -63,7 +63,7 @@ class BesideTest(mounts.MountTest):
         self.assert_same(self.memory, mounted.begin("step"), None)
 
     def test_steps_in_a_step(self) -> None:
-        # (what the kernel keeps of a step has to be what its steps leave behind)
+        # (what the kernel keeps of a step has to be what its steps have left in it)
         mounted = self.mount()
         step, below = mounted.begin("step"), self.memory / "step"
         below.mkdir()

@@ -49,7 +49,7 @@ class File:
             self.resize(max(len(self.bytes), start + len(data)))
         self.bytes[start:start + len(data)] = data
 
-    # ---- the operations, each of which answers whether it found what it had to
+    # ---- the operations, each of which returns whether it found what it had to
 
     def write(self) -> bool:
         start, size = self.part()
@@ -128,7 +128,7 @@ class BytesTest(mounts.MountTest):
         self.assertEqual((mounted.job / "file").read_bytes(), held)
 
     def assert_parts(self, path: Path) -> bytes:
-        """Makes operations, and answers the bytes that the file has to have then."""
+        """Makes operations, and returns the bytes that the file has to have then."""
         source = random.Random(SEED)
         file = File(path, source)
         for number in range(COUNT):

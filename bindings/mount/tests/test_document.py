@@ -12,7 +12,7 @@ import mounts
 DOCUMENT = Path(__file__).resolve().parents[3] / "docs" / "MOUNT.md"
 PAGE = Path(__file__).resolve().parents[1] / "nuz.1"
 COMMANDS = "mount", "run", "commit", "abort", "undo", "steps", "save"
-# stands behind what each command prints
+# comes after what each command prints
 MARK = "---- end of a command"
 
 

@@ -82,7 +82,7 @@ class LeftOutTest(mounts.MountTest):
                          "ACLs are left out (files: 1; the first: source/file)")
 
     def test_of_a_mount(self) -> None:
-        """It is told before the mount goes behind."""
+        """It is reported before the mount goes into the background."""
         self.set_attribute(self.source / "file", "user.name", b"value")
         top = self.disk / "mount"
         ended = mounts.nuz("mount", "--from", self.source, top)

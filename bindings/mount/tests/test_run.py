@@ -32,7 +32,7 @@ class RunTest(mounts.MountTest):
         return mounts.nuz("run", *words, env=self.environment, **options)
 
     def assert_nothing_left(self) -> None:
-        """No mount is left, no folder, and nothing beside the target."""
+        """No mount is left, no folder, and nothing next to the target."""
         self.assertTrue(mounts.wait_until(lambda: self.mounts_here() == self.mounts_before))
         self.assertTrue(mounts.wait_until(lambda: not os.listdir(self.temporary)))
         self.assertLessEqual(set(os.listdir(self.disk)),

@@ -1,4 +1,4 @@
-"""Steps side by side and inside each other: what waits, what is seen, and what is taken back."""
+"""Steps side by side and inside each other: what waits, what is seen, and what is undone."""
 from __future__ import annotations
 
 import errno
@@ -32,7 +32,7 @@ class StepsTest(mounts.MountTest):
         self.assertEqual(errno.errorcode.get(raised.exception.errno), errno.errorcode[number])
 
     def assert_waits(self, names: str, *processes: subprocess.Popen) -> None:
-        """Some steps wait, by what the mount tells, and some commands do not end."""
+        """Some steps wait, as the mount reports, and some commands do not end."""
         def all_wait() -> bool:
             told = self.mounted.steps()
             return all(re.search(rf"(?m)^{name} .* waits", told) for name in names.split())
@@ -386,7 +386,7 @@ class NestingTest(StepsTest):
         self.assertEqual((a / "file").read_text(), "to be removed")
 
     def test_folder_that_a_step_moves(self) -> None:
-        """Whoever stands in it, stands in it, wherever it is moved to."""
+        """A process whose current directory it is stays in it, wherever it is moved to."""
         (self.begin / "one" / "two").mkdir(parents=True)
         (self.begin / "one" / "two" / "file").write_text("text")
         (self.begin / "other" / "place").mkdir(parents=True)

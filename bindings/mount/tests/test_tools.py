@@ -1,6 +1,6 @@
 """Tools that know of no transaction, each committed, aborted and killed half way.
 
-What a tool makes in a step has to be what it makes in a folder of the disk.
+A tool has to make in a step what it makes in a folder of the disk.
 """
 from __future__ import annotations
 
@@ -164,7 +164,7 @@ class Dpkg(Tool):
 
 
 class Compile(Tool):
-    """python3 -m compileall, which writes each file beside and renames it."""
+    """python3 -m compileall, which writes each file under another name and renames it."""
 
     needs = ("python3",)
     timed = None

@@ -182,7 +182,7 @@ class Session:
     def _wait(self, request: Request, parts: Parts, timeout: float | None) -> Answer:
         """Makes a request, and makes it again while it is blocked, until the time is over or it
         would wait for ever. Then it is cancelled, so that no report shows it as waiting, and no
-        other request waits behind it."""
+        other request waits for its turn."""
         with self.lock:
             answer = self._once(request, parts)
             if answer.code == WAITS:
@@ -217,8 +217,8 @@ class Session:
         return answer
 
     def _cancel(self, number: object) -> None:
-        """Cancels the request that a transaction waits for, if there is one. Others may wait behind
-        it."""
+        """Cancels the request that a transaction waits for, if there is one. Others may wait for
+        its turn."""
         if not self._library.nuz_cancel(number).code:
             self._ended.notify_all()
 

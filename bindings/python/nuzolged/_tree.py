@@ -97,10 +97,10 @@ class Tree:
     def request(self, line: str) -> str:
         """Carries out one line of a script without waiting, and returns the text of the reply. The
         line may also be a report, such as `tree`, `locks` or `waits`. A call that has to wait is
-        kept until a line drops it, and others may wait behind it.
+        kept until a line drops it, and others may wait for its turn.
 
         Raises:
-            ValueError: It is not a line of a script.
+            ValueError: It is not a line of a script without names, `put` and `get`.
         """
         answer = self.session.line_of_user(os.fsencode(line))
         if answer.code == _library.BAD:

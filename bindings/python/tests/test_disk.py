@@ -18,7 +18,7 @@ IS_ROOT = os.geteuid() == 0
 
 
 def as_nobody(run):
-    """Runs something in a process of nobody's, or of who runs the tests, unless that is root: its
+    """Runs something in a process of nobody's, or of the tests' own user unless that is root: its
     exit status is 0 if it ended well."""
     child = os.fork()
     if child:
@@ -332,7 +332,7 @@ class DiskTest(unittest.TestCase):
             thread.join()
 
     def copy_of_a(self, source):
-        """What stands in the copy, or None where that is a link."""
+        """What is in the copy, or None if that is a link."""
         with Tree() as tree, tree.begin() as job:
             copy_in(job, source)
             return None if job.islink("/a") else job.read_bytes("/a")

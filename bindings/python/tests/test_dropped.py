@@ -14,7 +14,7 @@ from nuzolged import Refused, Tree, Waits
 
 
 class Cycle:
-    """Something that the garbage collector alone finds."""
+    """Something that only the garbage collector finds."""
 
     def __init__(self, held):
         self.held, self.me = held, self
@@ -31,7 +31,7 @@ class Dropped(unittest.TestCase):
         return [line for line in self.tree.request("tree").splitlines() if line[:2] == "fd"]
 
     def amid(self, count, request, leave):
-        """What requests answer between whose parts the collector finds what was left."""
+        """The answers of requests between whose parts the collector finds what was left."""
         random_ = random.Random(1)
         for _ in range(count):
             gc.disable()

@@ -22,7 +22,7 @@ class FairTest(WaitingTest):
         return tree, *jobs
 
     def makes(self, tree, job, path):
-        """Has a transaction make a directory in a thread, which waits, and answers what waits for
+        """Has a transaction make a directory in a thread, which waits, and returns what waits for
         its end."""
         end = self.beside(lambda: job.mkdir(path))
         begun = time.monotonic()

@@ -29,7 +29,7 @@ PATHS = (
 
 
 def came_of(call, *args, **options):
-    """What a call answers, or the error."""
+    """The result of a call, or the error."""
     try:
         return call(*args, **options)
     except OSError as error:
@@ -92,7 +92,7 @@ class Looks(LinksTest):
             self.assertEqual([self.told(entry) for entry in here], sorted(map(self.told, there)))
 
     def told(self, entry):
-        """What a name tells of itself. (What leads to itself is an error in os.)"""
+        """What an entry says of itself. (A link to itself is an error in os.)"""
         kinds = entry.is_symlink(), entry.is_dir(follow_symlinks=False)
         if entry.name != "loop":
             kinds += entry.is_dir(), entry.is_file(), entry.is_file(follow_symlinks=False)

@@ -22,7 +22,7 @@ class TreeTest(unittest.TestCase):
         self.job = self.tree.begin()
 
     def names(self):
-        """What stands behind all that has committed."""
+        """The names after all that has committed."""
         with self.tree.begin() as reader:
             return reader.listdir()
 
@@ -120,7 +120,7 @@ class TreeLimits(unittest.TestCase):
         self.assertEqual(error.exception.errno, number)
 
     def depth_of(self, job):
-        """How deep the steps of a job may stand, and the refusal of one more."""
+        """How deep the steps of a job may be, and the refusal of one more."""
         steps = [job]
         with self.assertRaises(Refused) as refused:
             while True:

@@ -19,7 +19,7 @@ class WaitingTest(unittest.TestCase):
         return tree
 
     def beside(self, work):
-        """Runs work in a thread of its own, and answers what waits for its end."""
+        """Runs work in a thread of its own, and returns what waits for its end."""
         results = []
 
         def run():
@@ -38,7 +38,7 @@ class WaitingTest(unittest.TestCase):
         return end
 
     def wait_for(self, tree, report):
-        """Waits until this is what is told of who waits."""
+        """Waits until the report on who waits is this one."""
         begun = time.monotonic()
         while tree.request("waits") != report:
             self.assertLess(time.monotonic() - begun, 60, tree.request("waits"))
@@ -190,7 +190,7 @@ class ForATime(WaitingTest):
 
     def with_a_deadlock(self):
         """A tree in which transactions 2 and 3 wait for each other for ever, by lines that nobody
-        takes back. (A call of a transaction is forgotten when it is told of a deadlock.)"""
+        cancels. (A call of a transaction is forgotten when it is told of a deadlock.)"""
         tree = self.shared(60)
         for line in ("begin", "begin", "2 mkdir /2", "3 mkdir /3", "2 list /3", "3 list /2"):
             tree.request(line)

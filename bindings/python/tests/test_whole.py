@@ -1,4 +1,4 @@
-"""What takes several calls: whole files and trees, paths, and what stands on them."""
+"""Work that takes several calls: whole files and trees, paths, and what is built on them."""
 import errno
 import gc
 import importlib.util

@@ -60,7 +60,7 @@ impl<'a> Plan<'a> {
     }
 }
 
-/// What became of a target.
+/// The end of a target.
 enum End {
     Built,
     Failed(io::Error),

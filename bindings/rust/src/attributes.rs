@@ -8,7 +8,7 @@ use crate::tree::Reach;
 use std::path::Path;
 use std::time::{Duration, SystemTime, UNIX_EPOCH};
 
-/// What the mode of a `std::fs::Metadata` has besides the permissions: the kind.
+/// The bits of the mode of a `std::fs::Metadata` besides the permissions: the kind.
 const KIND: u32 = 0o170_000;
 
 /// The bits that let a file be written.

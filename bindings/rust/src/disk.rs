@@ -149,7 +149,7 @@ impl<R: Reach> Transaction<R> {
     }
 }
 
-/// What each request of a copy needs, and the error of the last one that waited.
+/// The needs of each request of a copy, and the error of the last one that waited.
 struct Asked<'t, R: Reach> {
     transaction: &'t Transaction<R>,
     last: Option<Error>,

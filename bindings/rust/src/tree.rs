@@ -109,13 +109,13 @@ impl Tree {
         Ok(())
     }
 
-    /// Carries out one line of a script, and returns the text of the reply. The line may also ask
-    /// for a report, such as `tree`, `locks` or `waits`. A line may end a transaction of which
-    /// somebody has a [`Transaction`]: its requests are then refused.
+    /// Carries out one line of a script, and returns the text of the reply. The line may also be a
+    /// report, such as `tree`, `locks` or `waits`. A line may end a transaction of which somebody
+    /// has a [`Transaction`]: its requests are then refused.
     ///
     /// # Errors
     ///
-    /// `Invalid` if it is no line of a script.
+    /// `Invalid` if it is not a line of a script without names, `put` and `get`.
     pub fn request(&self, line: &str) -> Result<String> {
         self.once(|handle| reply_to(handle, line))
     }
@@ -235,7 +235,7 @@ impl Shared {
     ///
     /// # Errors
     ///
-    /// `Invalid` if it is not a line of a script.
+    /// `Invalid` if it is not a line of a script without names, `put` and `get`.
     pub fn request(&self, line: &str) -> Result<String> {
         self.end(|handle| reply_to(handle, line))
     }

@@ -29,7 +29,7 @@ pub struct Place {
 #[derive(Debug)]
 pub struct Walk<'t, R: Reach> {
     transaction: &'t Transaction<R>,
-    /// What is still to come, the next one last.
+    /// The places that are still to come, the next one last.
     left: Vec<Place>,
 }
 

@@ -1,5 +1,5 @@
 //! Finds libnuzolged.a: in the folder that NUZOLGED_LIB_DIR names, else in `native`, as it is
-//! packed, else where `make` builds it beside this crate, else in the lib folder of the place that
+//! packed, else where `make` builds it next to this crate, else in the lib folder of the place that
 //! this crate was installed in, else where pkg-config says that it is. For docs.rs, which links
 //! nothing, it is not looked for.
 
@@ -21,7 +21,7 @@ fn places() -> Vec<PathBuf> {
         .collect()
 }
 
-/// Where pkg-config says that the library is, if it is there and knows of it.
+/// Returns the folder that pkg-config names for the library, if it is there and knows of it.
 fn place_of_system() -> Option<PathBuf> {
     let asked = Command::new("pkg-config")
         .args(["--variable=libdir", "nuzolged"])

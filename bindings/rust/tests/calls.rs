@@ -1,4 +1,4 @@
-//! Each call by one thread: what it does, and what stands in its way.
+//! Each call by one thread: what it does, and what blocks it.
 
 use nuzolged::{Error, Kind, OpenOptions, Refusal, Result, Rule, Tree};
 use std::ffi::OsStr;

@@ -31,7 +31,7 @@ fn makes(
     Ok(thread)
 }
 
-/// What a transaction lists in `/d` if it does not wait.
+/// Returns how many names a transaction lists in `/d` if it does not wait.
 fn listed(job: &Transaction<Shared>) -> Result<usize> {
     let names = job.within(Duration::ZERO).read_dir("/d")?;
     Ok(names.len())
@@ -79,7 +79,7 @@ fn turn_of_one_that_gives_up_is_gone() -> Result<()> {
     Ok(())
 }
 
-/// The first waits in turn behind the third, and that for the second. The second is told of no
+/// The first waits for the turn of the third, and that for the second. The second is told of no
 /// deadlock when it waits for the first, which then goes on.
 #[test]
 fn ring_through_a_turn_is_no_deadlock() -> Result<()> {

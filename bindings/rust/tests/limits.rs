@@ -1,4 +1,4 @@
-//! What a tree allows.
+//! The limits of a tree.
 
 use nuzolged::{Error, Refusal, Result, Rule, Shared, Tree};
 use std::io::{self, ErrorKind};
@@ -116,7 +116,7 @@ fn limits_that_are_not_set_are_the_greatest() -> Result<()> {
     Ok(())
 }
 
-/// How deep the steps of a tree may stand.
+/// How deep the steps of a tree may be.
 fn depth_of(tree: Tree) -> Result<usize> {
     let tree = Shared::new(tree, Duration::ZERO);
     let mut steps = vec![tree.begin()?];

@@ -191,7 +191,7 @@ impl Drop for Folder {
     }
 }
 
-/// What came of a call: what it tells, or the error.
+/// The outcome of a call: its result, or the error.
 type Came = std::result::Result<String, ErrorKind>;
 
 fn came_here<T: std::fmt::Debug>(result: Result<T>) -> Came {
@@ -206,7 +206,7 @@ fn came_there<T: std::fmt::Debug>(result: io::Result<T>) -> Came {
         .map_err(|error| error.kind())
 }
 
-/// What the calls that look come to on a path of the tree.
+/// The outcomes of the calls that look, on a path of the tree.
 fn looks_here(job: &Transaction<&Tree>, path: &str) -> Vec<Came> {
     let kind = |told: nuzolged::Metadata| (told.is_dir(), told.is_file(), told.is_symlink());
     let names = |told: Vec<nuzolged::Entry>| {

@@ -1,4 +1,4 @@
-//! What a transaction has touched.
+//! The paths that a transaction has touched.
 
 use nuzolged::{Error, Kind, Result, Touched, Transaction, Tree};
 use std::path::{Path, PathBuf};

@@ -1,4 +1,4 @@
-//! What takes several calls, and how files are opened.
+//! Work that takes several calls, and how files are opened.
 
 use nuzolged::{Error, Kind, OpenOptions, Result, Transaction, Tree};
 use std::io::{ErrorKind, Read, Seek, SeekFrom, Write};
@@ -90,7 +90,7 @@ impl Drop for Folder {
     }
 }
 
-/// What comes of opening, and the file that was there, behind it.
+/// The outcome of opening, and the bytes of the file that was there, after it.
 type Opened = (std::result::Result<(), ErrorKind>, Vec<u8>);
 
 /// The six options of a number below 64, in the order of its bits.

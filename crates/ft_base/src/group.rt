@@ -181,7 +181,7 @@ fn have_page<V: Copy>(
     make_page(pages, page)
 }
 
-/// If there is no page, takes the pages of the spare group. No value changes.
+/// Takes the pages of the spare group if there is no page. No value changes.
 fn take_spare<V: Copy>(pages: &mut Vec<Page<V>>, spare: &mut Group<V>)
     requires pages { HaveLen page_len pages.old.items }
     requires few { length pages.old.items ≤ group_pages }

@@ -187,7 +187,7 @@ fn first_from<V: Copy>(groups: &[Group<V>], from: u64) -> Option<(u64, V)>
     None
 }
 
-/// Where the value of a number is: the number of its group, and its place in the group.
+/// The spot of a number's value: the number of its group, and its place in the group.
 #[derive(Clone, Copy)]
 struct Spot {
     group: u64,

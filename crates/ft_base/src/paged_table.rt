@@ -140,7 +140,7 @@ impl<V: Copy> PagedTable<V> {
     }
 }
 
-/// Where the value of a number is: the number of its group, and its place in the group.
+/// The spot of a number's value: the number of its group, and its place in the group.
 #[derive(Clone, Copy)]
 struct Spot {
     group: u64,

@@ -18,7 +18,7 @@ use crate::offsets::to_size;
 use ft_base::Memory;
 use ft_looks::{Look, text_parts};
 use ft_path::{Errno, FilePath, JudgedPath};
-use ft_posix::{CallError, Edit, OpenFlags, PlannedReply};
+use ft_posix::{CallError, Edit, FileInfo, OpenFlags, PlannedReply};
 use ft_tree::{Attributes, Entry, Form, HintedFile, Kind, Node, PathEnd};
 use std::alloc::Global;
 
@@ -241,14 +241,14 @@ fn dir_info(look: &mut Look<'_>, dir: u64) -> Result<PlannedReply, CallError>
     ensures { Computes look.old (dir_info dir) look.new (intended [] result) }
 {
     let attributes = look.dir_attributes(dir)?;
-    Ok(PlannedReply::Info {
+    Ok(PlannedReply::Info(FileInfo {
         kind: Kind::Dir,
         number: dir,
         links: 1,
         size: 0,
         attributes,
         time: None,
-    })
+    }))
 }
 
 /// Returns the planned reply about a file or a symbolic link.
@@ -262,14 +262,14 @@ pub(crate) fn file_info(
     let links = look.links(file)?;
     let (size, time) = look.size_and_time(file)?;
     let attributes = attributes_at(look, form, file)?;
-    Ok(PlannedReply::Info {
+    Ok(PlannedReply::Info(FileInfo {
         kind: Node::File(form, file).kind(),
         number: file,
         links,
         size,
         attributes,
         time,
-    })
+    }))
 }
 
 /// Returns the stored attributes of a file. A symbolic link has none of its own.

@@ -18,7 +18,7 @@ mod purpose;
 mod symlinks;
 
 pub use ft_posix::{
-    Access, Call, Edit, Edits, Intent, LAST_OFFSET, Mode, OpenFlags, PlannedReply, Reply,
+    Access, Call, Edit, Edits, FileInfo, Intent, LAST_OFFSET, Mode, OpenFlags, PlannedReply, Reply,
     StampedCall, Whence,
 };
 pub use preparing::{Looked, Prepared, accesses, intend, look_behind, look_over, prepare};

@@ -7,7 +7,7 @@ use ft_path::Errno;
 use ft_posix::CallError;
 use ft_tree::OpenFile;
 
-/// What a call needs an open descriptor for.
+/// The purpose for which a call needs an open descriptor.
 #[derive(Clone, Copy)]
 pub(crate) enum Purpose {
     /// Neither reading nor writing: each open descriptor will do.

@@ -72,7 +72,7 @@ impl Cell {
     }
 
     /// Returns the number of the cell: that of its directory, file or descriptor.
-    fn number(&self) -> u64
+    pub fn number(&self) -> u64
         ensures { result ≡ cell_number self.now }
     {
         match self {

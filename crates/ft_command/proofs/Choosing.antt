@@ -31,7 +31,7 @@ choice_of_matches words m choice free rows h = go choice (subst (λ met. ReadCho
     go : (choice : Choice) → ReadChoice (subcommand_of program words) choice → ChoiceOf words choice
     go (Play strict rule after limits) h = (free, h)
     go Dot h = (free, h)
-    go (Load dir skip check set_id quiet limits) h = (free, h)
+    go (Load dir at skip check set_id quiet limits) h = (free, h)
     go (Save dir how limits) h = (free, h)
     go (Jobs file pace quiet rule after limits) h = (free, h)
     go (Help text) h = absurd h
@@ -41,7 +41,7 @@ choice_of_matches words m choice free rows h = go choice (subst (λ met. ReadCho
 pub choice_of_error : (words : List Text) (kind : ErrorKind) (choice : Choice) → (kind ≡ OutOfMemory) ⊎ IsAmong kind (fault_of program words) → ErrorChoice kind choice → ChoiceOf words choice
 choice_of_error words kind (Play strict rule after limits) among h = absurd h
 choice_of_error words kind Dot among h = absurd h
-choice_of_error words kind (Load dir skip check set_id quiet limits) among h = absurd h
+choice_of_error words kind (Load dir at skip check set_id quiet limits) among h = absurd h
 choice_of_error words kind (Save dir how limits) among h = absurd h
 choice_of_error words kind (Jobs file pace quiet rule after limits) among h = absurd h
 choice_of_error words kind (Help text) (inl is) (inl help) = cc

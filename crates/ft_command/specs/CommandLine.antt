@@ -11,6 +11,7 @@ use Rattle.clap.specs.declared.error.kind.ErrorKind.TheVariants.{DisplayHelp, Di
 use Rattle.ft_lock_rules.specs.declared.rule.Rule.{Rule as LockRule}
 use Rattle.ft_lock_rules.specs.Rules.{is_strict}
 use Rattle.ft_command.specs.Limits.{HasBadLimit, TellsLimits, limited}
+use Rattle.ft_command.specs.Places.{HasBadPlace, TellsPlace}
 use Rattle.ft_command.specs.declared.limits.AskedLimits.{AskedLimits}
 use Rattle.ft_command.specs.declared.choice.AskedPace.{AskedPace}
 use Rattle.ft_command.specs.declared.choice.AskedSave.{AskedSave}
@@ -44,6 +45,10 @@ moss_rule = record (new_rule (codes "moss")) { long = Some (codes "moss"); actio
 -- a directory must be named
 abbrev pub dir_rule : Rule
 dir_rule = record (new_rule (codes "dir")) { required = true; value_names = 1 }
+
+-- `--at PATH`: a script puts everything into a directory of the tree, and has names
+abbrev pub at_rule : Rule
+at_rule = record (new_rule (codes "at")) { long = Some (codes "at"); value_names = 1 }
 
 -- `--skip`: what can't be loaded is left out
 abbrev pub skip_rule : Rule
@@ -94,9 +99,10 @@ play = limited (with_rule (with_rule (with_rule (new_app (codes "play")) strict_
 abbrev pub dot : App
 dot = limited (new_app (codes "dot"))
 
--- `load`, which needs a directory and may have `--skip`, `--check`, `--set-id` and `--quiet`
+-- `load`, which needs a directory and may have `--at PATH`, `--skip`, `--check`, `--set-id` and
+-- `--quiet`
 abbrev pub load : App
-load = limited (with_rule (with_rule (with_rule (with_rule (with_rule (new_app (codes "load")) dir_rule) skip_rule) check_rule) set_id_rule) quiet_rule)
+load = limited (with_rule (with_rule (with_rule (with_rule (with_rule (with_rule (new_app (codes "load")) dir_rule) at_rule) skip_rule) check_rule) set_id_rule) quiet_rule)
 
 -- `save` to a new directory, which may have `--set-id`, `--no-owners`, `--quiet` and `--sync`
 abbrev pub save_new : App
@@ -189,20 +195,20 @@ abbrev pub LacksInto : List Row → Type 0
 LacksInto found = (how : AskedSave) × TellsSave found how × IsWithoutInto how
 
 -- The choice if the words name this subcommand: a usage text only if the value of a flag is no
--- limit, or if `save` lacks `--into`.
+-- limit, or if the directory of `load --at` has no path, or if `save` lacks `--into`.
 abbrev pub ReadChoice : Met → Choice → Type 0
 ReadChoice met (Play strict rule after limits) =
     (found : List Row) × (met ≡ Some (codes "play", found)) × IsFlag (one_of (codes "strict") found) strict × TellsRule found rule × TellsAfter found (option_map string_bytes after) × TellsLimits found limits
 ReadChoice met Dot = (found : List Row) × (met ≡ Some (codes "dot", found)) × ((limits : AskedLimits) × TellsLimits found limits)
-ReadChoice met (Load dir skip check set_id quiet limits) =
-    (found : List Row) × (met ≡ Some (codes "load", found)) × TellsDir found (string_bytes dir) × IsFlag (one_of (codes "skip") found) skip × IsFlag (one_of (codes "check") found) check
+ReadChoice met (Load dir at skip check set_id quiet limits) =
+    (found : List Row) × (met ≡ Some (codes "load", found)) × TellsDir found (string_bytes dir) × TellsPlace found at × IsFlag (one_of (codes "skip") found) skip × IsFlag (one_of (codes "check") found) check
     × IsFlag (one_of (codes "set-id") found) set_id × IsFlag (one_of (codes "quiet") found) quiet × TellsLimits found limits
 ReadChoice met (Save dir how limits) =
     (found : List Row) × (met ≡ Some (codes "save", found)) × TellsDir found (string_bytes dir) × TellsSave found how × (¬ IsWithoutInto how) × TellsLimits found limits
 ReadChoice met (Jobs file pace quiet rule after limits) =
     (found : List Row) × (met ≡ Some (codes "jobs", found)) × TellsJobs found (string_bytes file) pace quiet × TellsRule found rule × TellsAfter found (option_map string_bytes after) × TellsLimits found limits
 ReadChoice met (Help text) = ⊥
-ReadChoice met (Usage text) = (name : Text) × (found : List Row) × (met ≡ Some (name, found)) × (HasBadLimit found ⊎ ((name ≡ codes "save") × LacksInto found))
+ReadChoice met (Usage text) = (name : Text) × (found : List Row) × (met ≡ Some (name, found)) × (HasBadLimit found ⊎ ((name ≡ codes "load") × HasBadPlace found) ⊎ ((name ≡ codes "save") × LacksInto found))
 ReadChoice met Fault = Unit {0}
 
 -- help or the version was asked for
@@ -214,7 +220,7 @@ IsRequest kind = (kind ≡ DisplayHelp) ⊎ (kind ≡ DisplayVersion)
 abbrev pub ErrorChoice : ErrorKind → Choice → Type 0
 ErrorChoice kind (Play strict rule after limits) = ⊥
 ErrorChoice kind Dot = ⊥
-ErrorChoice kind (Load dir skip check set_id quiet limits) = ⊥
+ErrorChoice kind (Load dir at skip check set_id quiet limits) = ⊥
 ErrorChoice kind (Save dir how limits) = ⊥
 ErrorChoice kind (Jobs file pace quiet rule after limits) = ⊥
 ErrorChoice kind (Help text) = IsRequest kind
@@ -227,12 +233,12 @@ abbrev pub IsCommand : List Text → Choice → Type 0
 IsCommand words choice = (fault_of program words ≡ []) × ReadChoice (subcommand_of program words) choice
 
 -- The choice that words ask for: a subcommand only if they name just that, a help text only if help
--- or the version was asked for, a usage text only at another error, at a value that is no limit, or
--- if `--into` is lacking.
+-- or the version was asked for, a usage text only at another error, at a value that is no limit or
+-- no path, or if `--into` is lacking.
 abbrev pub ChoiceOf : List Text → Choice → Type 0
 ChoiceOf words (Play strict rule after limits) = IsCommand words (Play strict rule after limits)
 ChoiceOf words Dot = IsCommand words Dot
-ChoiceOf words (Load dir skip check set_id quiet limits) = IsCommand words (Load dir skip check set_id quiet limits)
+ChoiceOf words (Load dir at skip check set_id quiet limits) = IsCommand words (Load dir at skip check set_id quiet limits)
 ChoiceOf words (Save dir how limits) = IsCommand words (Save dir how limits)
 ChoiceOf words (Jobs file pace quiet rule after limits) = IsCommand words (Jobs file pace quiet rule after limits)
 ChoiceOf words (Help text) = (kind : ErrorKind) × IsAmong kind (fault_of program words) × IsRequest kind

@@ -2,3 +2,4 @@
 pub mod CommandLine
 -- What the crate keeps true of itself.
 pub mod Limits
+pub mod Places

@@ -2,13 +2,16 @@
 ghost use Rattle.std.specs.Prelude.{◌≡◌, IfOk, IfSome, IsFalse, IsTrue, List, Some, codes, false, map, option_map, string_bytes};
 ghost use Rattle.clap.specs.Words.{Row, Text, app_of, found_of, kind_of, one_of, rows_of, rule_of, subcommand_rows_of};
 ghost use Rattle.ft_command.specs.Limits.{IsBadLimit};
-ghost use Rattle.ft_command.specs.CommandLine.{ChoiceOf, ErrorChoice, HasNoGlobals, IsFlag, IsWithoutInto, LacksInto, ReadChoice, TellsAfter, TellsDir, TellsJobs, TellsNumberIfAny, TellsRule, TellsSave, after_rule, bare, check_rule, dir_rule, dot, dry_run_rule, file_rule, into_rule, jobs, load, moss_rule, no_owners_rule, play, program, quiet_rule, remove_rule, retries_rule, save, set_id_rule, skip_rule, strict_rule, sync_rule, threads_rule, turns_rule, with_filters, with_folders};
+ghost use Rattle.ft_command.specs.Places.{HasBadPlace};
+ghost use Rattle.ft_command.specs.CommandLine.{ChoiceOf, ErrorChoice, HasNoGlobals, IsFlag, IsWithoutInto, LacksInto, ReadChoice, TellsAfter, TellsDir, TellsJobs, TellsNumberIfAny, TellsRule, TellsSave, after_rule, at_rule, bare, check_rule, dir_rule, dot, dry_run_rule, file_rule, into_rule, jobs, load, moss_rule, no_owners_rule, play, program, quiet_rule, remove_rule, retries_rule, save, set_id_rule, skip_rule, strict_rule, sync_rule, threads_rule, turns_rule, with_filters, with_folders};
 
 use crate::limits::{AskedLimits, Flag, asked_limits, with_limits};
+use crate::place::{PlaceFault, asked_place};
 use clap::builder::ValueParser;
 use clap::error::ErrorKind;
 use clap::{Arg, ArgAction, ArgMatches, Command, Error};
 use ft_lock_rules::Rule;
+use ft_path::FilePath;
 use std::alloc::{AllocError, Global};
 use std::convert::AsStr;
 
@@ -26,11 +29,14 @@ pub enum Choice {
     /// Draw the last report of which transaction waits for which.
     Dot,
     /// Write a script that makes what this directory holds, or list the things in it that can't be
-    /// loaded, if it is to be checked. They are left out if they are to be skipped. Modes have
-    /// their bits S_ISUID and S_ISGID only if these are requested. Progress is not shown if it is
-    /// to be quiet. No more is written than these limits allow.
+    /// loaded, if it is to be checked. They are left out if they are to be skipped. If the path of
+    /// a directory of the tree is given, the script puts everything into that directory, and has
+    /// names in place of numbers. Modes have their bits S_ISUID and S_ISGID only if these are
+    /// requested. Progress is not shown if it is to be quiet. No more is written than these limits
+    /// allow.
     Load {
         dir: String,
+        at: Option<FilePath>,
         skip: bool,
         check: bool,
         set_id: bool,
@@ -76,7 +82,7 @@ pub struct AskedSave {
     pub sync: bool,
     /// The directory exists, and only what differs is made.
     pub into: bool,
-    /// What the tree does not have is removed.
+    /// Anything that the tree does not have is removed.
     pub remove: bool,
     /// The steps are listed, and nothing is done.
     pub dry_run: bool,
@@ -214,9 +220,15 @@ fn load_choice(alloc: Global, found: &ArgMatches) -> Choice
         Ok(limits) => limits,
         Err(flag) => return misused(alloc, found, flag),
     };
+    let at = match asked_place(alloc, found) {
+        Ok(at) => at,
+        Err(PlaceFault::NoPlace) => return misplaced(alloc, found),
+        Err(PlaceFault::Memory) => return Choice::Fault,
+    };
     match asked_dir(alloc, found) {
         Some(dir) => Choice::Load {
             dir,
+            at,
             skip,
             check,
             set_id,
@@ -224,6 +236,23 @@ fn load_choice(alloc: Global, found: &ArgMatches) -> Choice
             limits,
         },
         None => Choice::Fault,
+    }
+}
+
+/// Returns the choice if the directory of the tree for a script has no absolute path, or one whose
+/// text has a fault.
+fn misplaced(alloc: Global, found: &ArgMatches) -> Choice
+    ensures { HasBadPlace (rows_of (found_of found.now))
+        → ReadChoice (Some (codes "load", rows_of (found_of found.now))) result }
+{
+    let value = found.get_str("at").unwrap_or("");
+    let text = format!(in alloc;
+        "error: invalid value '{value}' for '--at <PATH>': it is no absolute path of the tree\n\n\
+            For more information, try '--help'.\n"
+    );
+    match text {
+        Ok(text) => Choice::Usage(text),
+        Err(_) => Choice::Fault,
     }
 }
 
@@ -462,6 +491,7 @@ fn load_command<'a>(alloc: Global) -> Result<Command<'a>, AllocError>
     let command = Command::new(alloc, "load")
         .about("Writes a script that makes the contents of a directory")
         .arg(dir_arg(alloc))?
+        .arg(at_arg(alloc))?
         .arg(skip_arg(alloc))?
         .arg(check_arg(alloc))?
         .arg(set_id_arg(alloc))?
@@ -513,6 +543,16 @@ fn dir_arg<'a>(alloc: Global) -> Arg<'a>
         .required(true)
         .value_name("DIR")
         .help("The directory")
+}
+
+/// Returns the flag of the directory of the tree for a script, which then has names.
+fn at_arg<'a>(alloc: Global) -> Arg<'a>
+    ensures rule { rule_of result ≡ at_rule }
+    ensures local { result.global ≡ false }
+{
+    Arg::new(alloc, "at").long("at").value_name("PATH").help(
+        "Put everything into this directory of the tree, and write names for numbers",
+    )
 }
 
 /// Returns the flag that leaves out what can't be loaded.

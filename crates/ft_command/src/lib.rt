@@ -3,6 +3,7 @@
 
 mod choice;
 mod limits;
+mod place;
 
 pub use choice::{AskedPace, AskedSave, Choice, choose};
 pub use limits::AskedLimits;

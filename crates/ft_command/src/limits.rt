@@ -20,7 +20,7 @@ pub struct AskedLimits {
 }
 
 impl AskedLimits {
-    /// The limits that are asked for, and for each that is not, that of these.
+    /// Returns the requested limits, and those of `limits` for the others.
     pub fn over(&self, limits: Limits) -> Limits
         ensures { result ≡ record {
           file_size = unwrap_or self.now.file_size limits.file_size;
@@ -50,7 +50,7 @@ pub(crate) enum Flag {
 }
 
 impl Flag {
-    /// Its name, without the dashes before it.
+    /// Returns the name of the flag, without the dashes before it.
     pub(crate) fn name<'a>(self) -> &'a str
         ensures { result.now ≡ flag_name self }
     {
@@ -62,7 +62,7 @@ impl Flag {
         }
     }
 
-    /// The limit that a value of it gives.
+    /// Returns the limit that a value of the flag gives.
     pub(crate) fn limit_of(self, value: &str) -> Option<u64>
         ensures { result ≡ flag_limit self value.now }
     {
@@ -76,7 +76,7 @@ impl Flag {
         }
     }
 
-    /// The values that it may have.
+    /// Returns the values that the flag may have, as text.
     pub(crate) fn values(self) -> &'static str {
         match self {
             Flag::LargestFile => "a number of bytes up to 2^47, with or without K, M or G",

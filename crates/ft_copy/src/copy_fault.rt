@@ -33,7 +33,7 @@ pub enum CopyFault {
     /// The source does not describe a tree: a directory has two names, or a name leads to nothing.
     #[error("BadTree")]
     BadTree,
-    /// What is to be made already exists.
+    /// Something that is to be made already exists.
     #[error("Exists")]
     Exists,
     /// There are more calls than a core grants between two checkpoints.

@@ -84,7 +84,7 @@ fn room_for_piece(alloc: Global) -> Result<Vec<u8>, AllocError>
 }
 
 /// Reads once, and returns the number of bytes. Out of memory is a fault of its own.
-fn read_piece<R: Read>(file: &mut R, piece: &mut [u8]) -> Result<usize, CopyFault>
+pub fn read_piece<R: Read>(file: &mut R, piece: &mut [u8]) -> Result<usize, CopyFault>
     ensures bound { ReadsAtMost result piece.new }
     ensures bytes { IfOk result
         (λ n. Consumes (R.remaining file.old) (R.remaining file.new) (take n piece.new)) }

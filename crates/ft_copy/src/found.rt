@@ -35,7 +35,7 @@ pub struct FileFacts {
     pub size: u64,
 }
 
-/// What a file has besides its bytes and its names.
+/// The attributes and the time of a file: all that it has besides its bytes and its names.
 #[derive(Clone, Copy, Debug, PartialEq, Eq)]
 pub struct Given {
     pub attributes: Attributes,
@@ -57,7 +57,7 @@ pub struct FoundFolder {
     pub attributes: Attributes,
 }
 
-/// What was found at a place.
+/// The thing that was found at a place.
 #[derive(Clone, Copy, Debug, PartialEq, Eq)]
 pub enum Found {
     /// A directory.

@@ -16,7 +16,7 @@ mod walk;
 
 pub use copy_fault::{CopyFault, CopyStop};
 pub use copying::copy;
-pub use file::PIECE;
+pub use file::{PIECE, read_piece};
 pub use found::{
     CopyPath, FileFacts, FileId, FolderEntry, Found, FoundFile, FoundFolder, Given, Leading,
     Listing, MetLink, Opened, ROOT,

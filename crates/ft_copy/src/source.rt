@@ -7,16 +7,16 @@ use std::io::Read;
 
 /// A description of a tree of directories.
 ///
-/// A place in it is given by its path, and by the number that the source gave with its name. What
-/// is listed, opened or read there may differ from what was found there before. Each reply
-/// therefore names the file that it is of.
+/// A place in it is given by its path, and by the number that the source gave with its name. The
+/// thing that is listed, opened or read there may differ from the one found there before. Each
+/// reply therefore names the file that it is of.
 pub trait Source {
     ghost use Rattle.ft_copy.specs.Told.{Told, Lists, Finds, Holds, Leads, Omits, Keeps, Refuses};
 
     /// A file that is open for reading.
     type File: Read + Drop;
 
-    /// What the source reports. By default this is not stated, as for a disk to which others may
+    /// The reports of the source. By default they are not stated, as for a disk to which others may
     /// write.
     ghost tells: { Self → Told → Type 0 } = { λ _ _. Unit {0} };
 

@@ -10,10 +10,14 @@ use Rattle.ft_cells.specs.contracts.open_file.AccessMode.{the_type as access_mod
 use Rattle.ft_posix.specs.contracts.call.Whence.{the_type as whence}
 use Rattle.ft_posix.specs.declared.call.OpenFlags.{OpenFlags}
 use Rattle.ft_posix.specs.contracts.call.OpenFlagsPartialEq.TheImpl.{ghosts as for_flags}
+use Rattle.ft_posix.specs.declared.call.FileInfo.{FileInfo}
+use Rattle.ft_posix.specs.contracts.call.FileInfoPartialEq.TheImpl.{ghosts as for_info}
 use Rattle.ft_posix.specs.contracts.call.Call.{enum as calls}
 use Rattle.ft_posix.specs.contracts.call.CallPartialEq.TheImpl.{ghosts as for_calls}
 use Rattle.ft_posix.specs.contracts.call.Reply.{enum as replies}
 use Rattle.ft_posix.specs.contracts.call.ReplyPartialEq.TheImpl.{ghosts as for_replies}
+use Rattle.ft_cells.specs.declared.attributes.Attributes.{Attributes}
+use Rattle.ft_cells.specs.declared.attributes.Timestamp.{Timestamp}
 use Rattle.ft_cells.specs.contracts.attributes.AttributesPartialEq.TheImpl.{ghosts as for_attributes}
 use Rattle.ft_cells.specs.contracts.attributes.TimestampPartialEq.TheImpl.{ghosts as for_times}
 use Rattle.ft_core.proofs.Deciding.{Decided, no_field, field, field_and, optional, bare, variants}
@@ -34,6 +38,17 @@ flags : Decided for_flags.eq
 flags x y =
     let each = field_and (bare access_mode tt) (field_and flag (field_and flag (field_and flag (field_and flag (field (optional number)))))) (flags_fields x) (flags_fields y) in
     (λ is. ap flags_from (each.0 is), λ is. each.1 (ap flags_fields is))
+
+abbrev info_fields : FileInfo → kind.D × (ℕ × (ℕ × (ℕ × (Option Attributes × (Option Timestamp × Unit {0})))))
+info_fields i = (i.kind, (i.number, (i.links, (i.size, (i.attributes, (i.time, tt))))))
+
+abbrev info_from : kind.D × (ℕ × (ℕ × (ℕ × (Option Attributes × (Option Timestamp × Unit {0}))))) → FileInfo
+info_from i = record { kind = i.0; number = i.1.0; links = i.1.1.0; size = i.1.1.1.0; attributes = i.1.1.1.1.0; time = i.1.1.1.1.1.0 }
+
+info : Decided for_info.eq
+info x y =
+    let each = field_and (bare kind tt) (field_and number (field_and number (field_and number (field_and (optional attributes) (field (optional time)))))) (info_fields x) (info_fields y) in
+    (λ is. ap info_from (each.0 is), λ is. each.1 (ap info_fields is))
 
 pub same_calls : Decided for_calls.eq
 same_calls =
@@ -134,7 +149,7 @@ same_replies =
           (
             field text,
             (
-              field_and (bare kind tt) (field_and number (field_and number (field_and number (field_and (optional attributes) (field (optional time)))))),
+              field info,
               (
                 field (bare errno tt),
                 tt,

@@ -58,7 +58,7 @@ impl Core {
     }
 }
 
-/// The locks of nobody, under a seed. Takes no memory.
+/// Returns a lock table without locks, under a seed. Takes no memory.
 fn no_locks(alloc: Global, seed: u64) -> Locks
     ensures { result ≡ without_locks }
 {

@@ -8,29 +8,13 @@ use ft_calls::Access;
 use ft_cells::Cell;
 use ft_posix::Mode;
 
-/// Whether some access of one list conflicts with some of another, on what has a number below the
-/// next one: their cells overlap, and one of them writes.
+/// Returns whether some access of one list conflicts with some of another, on what has a number
+/// below the next one: their cells overlap, and one of them writes.
 pub(crate) fn some_conflict(some: &[Access], others: &[Access], next: u64) -> bool
     ensures { result ≡ list_any (λ access. nat_lt (cell_number access.cell) next
         && list_any (conflict access) others.now) some.now }
 {
-    some.iter().any(|access| is_below(&access.cell, next) && conflicts_with(access, others))
-}
-
-/// Whether the number of a cell is below the next one.
-fn is_below(cell: &Cell, next: u64) -> bool
-    ensures { result ≡ nat_lt (cell_number cell.now) next }
-{
-    match cell {
-        Cell::Entry(entry) => entry.dir < next,
-        Cell::Names(number)
-        | Cell::Parent(number)
-        | Cell::Links(number)
-        | Cell::Bytes(number)
-        | Cell::Fd(number)
-        | Cell::DirAttributes(number)
-        | Cell::FileAttributes(number) => *number < next,
-    }
+    some.iter().any(|access| access.cell.number() < next && conflicts_with(access, others))
 }
 
 /// Returns whether an access conflicts with one of the others.
@@ -47,7 +31,8 @@ fn conflict(access: &Access, other: &Access) -> bool
     overlap(&access.cell, &other.cell) && (is_write(access.mode) || is_write(other.mode))
 }
 
-/// Whether cells are the same, or one is the names of a directory and the other an entry of it.
+/// Returns whether cells are the same, or one is the names of a directory and the other an entry of
+/// it.
 fn overlap(cell: &Cell, other: &Cell) -> bool
     ensures { result ≡ overlap cell.now other.now }
 {

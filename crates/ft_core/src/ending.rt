@@ -135,8 +135,8 @@ impl Core {
         Ok(stamp)
     }
 
-    /// The stamp of the call that an undo would undo: the newest of the transaction's list, unless
-    /// a child has committed since.
+    /// Returns the stamp of the call that an undo would undo: the newest of the transaction's list,
+    /// unless a child has committed since.
     fn undo_target(&self, txn: TxnId) -> Result<u64, Fault>
         requires { fate_of self.now.state txn ≡ Some Live }
         ensures found { IfOk result

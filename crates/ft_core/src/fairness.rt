@@ -57,8 +57,8 @@ impl Core {
     }
 
     /// Returns each transaction that waits for a call, in rising order, with its blockers now, if
-    /// it waits behind those in front of it in a queue. One that is not in the queue is behind all
-    /// of it.
+    /// it waits in turn for those in front of it in a queue. If it is not in the queue, all of the
+    /// queue is in front of it.
     pub fn pending_behind(&self, queue: &[TxnId]) -> Result<Vec<Pending>, Memory>
         ensures { IfOk result (λ list. map as_wait list.items
             ≡ waits_behind self.now.state queue.now) }
@@ -69,7 +69,7 @@ impl Core {
     }
 
     /// Returns the blockers of the call that a transaction waits for, in rising order, if it waits
-    /// behind these; none if it waits for no call.
+    /// in turn for these; none if it waits for no call.
     pub fn blockers_behind(&self, txn: TxnId, ahead: &[TxnId]) -> Result<Vec<TxnId>, Memory>
         ensures { IfOk result
             (λ blockers. AreBlockersBehind ahead.now self.now.state txn blockers.items) }
@@ -80,14 +80,14 @@ impl Core {
         }
     }
 
-    /// Whether a transaction waits for a call.
+    /// Returns whether a transaction waits for a call.
     pub fn is_waiting(&self, txn: TxnId) -> bool
         ensures { result ≡ is_some (finite.get self.now.state.asks txn) }
     {
         self.journal.pending(txn).is_some()
     }
 
-    /// Whether a transaction waits for this call.
+    /// Returns whether a transaction waits for this call.
     #[tactic(auto, using(crate::proofs::Same::same_calls))]
     pub fn is_waiting_for(&self, txn: TxnId, call: &Call) -> bool
         ensures { IsTrue result ↔ (finite.get self.now.state.asks txn ≡ Some call.now) }
@@ -99,7 +99,7 @@ impl Core {
     }
 
     /// Makes a call if there may be one more, or notes that the transaction waits for it, as
-    /// `request` does, behind others.
+    /// `request` does, in turn after others.
     fn request_behind(
         &mut self,
         txn: TxnId,
@@ -137,7 +137,7 @@ impl Core {
         Ok(())
     }
 
-    /// Returns the blockers of a call that waits behind others, in rising order.
+    /// Returns the blockers of a call that waits in turn for others, in rising order.
     fn fair_blockers(&self, txn: TxnId, call: &Call, ahead: &[TxnId]) -> Result<Vec<TxnId>, Memory>
         ensures { IfOk result (λ blockers. blockers.items
             ≡ fair_rule ahead.now self.now.state txn (accesses_now self.now.state call.now)) }
@@ -166,7 +166,7 @@ impl Core {
         Ok(list)
     }
 
-    /// Whether a transaction that waits for a call holds another call back.
+    /// Returns whether a transaction that waits for a call holds another call back.
     fn holds_back(&self, behind: &Behind<'_>, txn: TxnId, call: &Call) -> Result<bool, Memory>
         ensures { IfOk result (λ holds. holds
             ≡ holds_back behind.now.ahead.now self.now.state behind.now.txn behind.now.touched.now
@@ -182,14 +182,14 @@ impl Core {
         Ok(some_conflict(touched.as_slice(), behind.touched, next))
     }
 
-    /// The number that the next call gives to what it makes.
+    /// Returns the number that the next call gives to what it makes.
     fn next_number(&self) -> u64
         ensures { result ≡ next_stamp self.now.state }
     {
         self.journal.next_stamp()
     }
 
-    /// Whether one of two transactions is the other or above it.
+    /// Returns whether one of two transactions is the other or above it.
     fn are_related(&self, txn: TxnId, other: TxnId) -> bool
         ensures { result ≡ are_related self.now.state txn other }
     {
@@ -209,7 +209,7 @@ impl Core {
     }
 }
 
-/// Lists each of these asks with its blockers, if each waits behind those in front of it in a
+/// Lists each of these asks with its blockers, if each waits in turn for those in front of it in a
 /// queue.
 fn list_behind(
     core: &Core,
@@ -248,7 +248,7 @@ fn list_holders(
     Ok(())
 }
 
-/// Whether a transaction is in a list.
+/// Returns whether a transaction is in a list.
 fn is_among(list: &[TxnId], txn: TxnId) -> bool
     ensures { result ≡ list_any (λ x. x == txn) list.now }
 {

@@ -71,8 +71,8 @@ impl Model for Journal {
 }
 
 impl Journal {
-    /// Nothing has happened since this tree, which is not kept; `stamp` is the last one given
-    /// before. Takes no memory.
+    /// Returns the journal of a core on which nothing has happened since this tree, which is not
+    /// kept; `stamp` is the last one given before. Takes no memory.
     pub(crate) fn new(alloc: Global, terms: Terms, base: &Tree, stamp: u64) -> Journal
         requires { stamp ≤ last_number }
         ensures { result ≡ no_events terms.rule terms.calls (tidy base.now) stamp }
@@ -87,7 +87,7 @@ impl Journal {
         }
     }
 
-    /// By which rule calls are granted, and how many since the base.
+    /// Returns by which rule calls are granted, and how many since the base.
     pub(crate) fn terms(&self) -> Terms
         ensures rule { result.rule ≡ self.now.rule }
         ensures calls { result.calls ≡ self.now.calls }
@@ -95,28 +95,29 @@ impl Journal {
         self.terms
     }
 
-    /// By which rule calls are granted.
+    /// Returns by which rule calls are granted.
     pub(crate) fn rule(&self) -> Rule
         ensures { result ≡ self.now.rule }
     {
         self.terms.rule
     }
 
-    /// The calls that transactions wait for.
+    /// Returns the calls that transactions wait for.
     pub(crate) fn asks(&self) -> &Table<Call>
         ensures { result.now ≡ self.now.asks }
     {
         &self.asks
     }
 
-    /// The call that a transaction waits for.
+    /// Returns the call that a transaction waits for.
     pub(crate) fn pending(&self, txn: TxnId) -> Option<&Call>
         ensures { option_copied result ≡ finite.get self.now.asks txn }
     {
         self.asks.get(txn.0)
     }
 
-    /// The call that is asked for now, or without one the call that the transaction waits for.
+    /// Returns the call that is asked for now, or without one the call that the transaction waits
+    /// for.
     pub(crate) fn wanted<'a>(&'a self, txn: TxnId, asked: &'a Option<Call>) -> &'a Call
         requires { IsSome (asked_for asked.now (finite.get self.now.asks txn)) }
         ensures { asked_for asked.now (finite.get self.now.asks txn) ≡ Some result.now }
@@ -130,7 +131,7 @@ impl Journal {
         call
     }
 
-    /// The last stamp when a child of a live transaction last committed.
+    /// Returns the last stamp when a child of a live transaction last committed.
     pub(crate) fn last_sub(&self, txn: TxnId) -> Option<u64>
         ensures { result ≡ sub_in self.now txn }
     {
@@ -232,7 +233,7 @@ impl Journal {
         let _ = self.take_ask(txn);
     }
 
-    /// Tells of the end of a transaction or of an undo.
+    /// Records the end of a transaction or an undo.
     pub(crate) fn tell(&mut self, turn: &Turn)
         ensures { self.new ≡ with_event self.old (event_of turn.now) }
     {
@@ -259,7 +260,7 @@ impl Journal {
     }
 }
 
-/// The call that is asked for now, or without one the call that was waited for.
+/// Returns the call that is asked for now, or without one the call that was waited for.
 pub(crate) fn asked_or(asked: Option<Call>, pending: Option<Call>) -> Call
     requires { IsSome (asked_for asked pending) }
     ensures { asked_for asked pending ≡ Some result }

@@ -23,7 +23,7 @@ mod sweeping;
 pub use fairness::in_front;
 pub use fault::Fault;
 pub use ft_base::Memory;
-pub use ft_calls::{Call, Mode, OpenFlags, Reply, Whence};
+pub use ft_calls::{Call, FileInfo, Mode, OpenFlags, Reply, Whence};
 pub use ft_forest::{
     DEFAULT_DEPTH, DEFAULT_TRANSACTIONS, LAST_NUMBER, MOST_TRANSACTIONS, State, TxnId,
 };

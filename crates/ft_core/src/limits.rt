@@ -38,7 +38,7 @@ impl Default for Limits {
 }
 
 impl Limits {
-    /// The greatest limits that a core may have.
+    /// Returns the greatest limits that a core may have.
     pub fn greatest() -> Limits
         ensures { result ≡ greatest_limits }
     {
@@ -51,7 +51,7 @@ impl Limits {
         }
     }
 
-    /// Whether each limit is at most that of `most`.
+    /// Returns whether each limit is at most that of `most`.
     pub fn are_within(&self, most: &Limits) -> bool
         ensures { result ≡ are_within self.now most.now }
     {

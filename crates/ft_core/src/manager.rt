@@ -92,7 +92,8 @@ impl Core {
         Core::with_rule(alloc, Rule::Profile)
     }
 
-    /// A core over the empty tree that grants calls by this rule. Its limits are the default ones.
+    /// Returns a core over the empty tree that grants calls by this rule. Its limits are the
+    /// default ones.
     pub fn with_rule(alloc: Global, rule: Rule) -> Result<Core, Memory>
         ensures { IfOk result (λ core. core.state ≡ first_state rule default_limits) }
     {
@@ -115,7 +116,7 @@ impl Core {
         Ok(core)
     }
 
-    /// A core over the empty tree with limits that it may have.
+    /// Returns a core over the empty tree with limits that it may have.
     fn within(alloc: Global, rule: Rule, limits: Limits) -> Result<Core, Memory>
         requires { are_within limits greatest_limits ≡ true }
         ensures { IfOk result (λ core. core.state ≡ first_state rule limits) }
@@ -159,7 +160,7 @@ impl Core {
         self.alloc
     }
 
-    /// By which rule calls are granted. It never changes.
+    /// Returns by which rule calls are granted. It never changes.
     pub fn rule(&self) -> Rule
         ensures { result ≡ self.now.state.rule }
     {
@@ -253,7 +254,7 @@ impl Core {
         &self.parts.tree
     }
 
-    /// Whether a transaction is live.
+    /// Returns whether a transaction is live.
     pub fn has_live(&self) -> bool
         ensures found { MatchBool result (SomeIsLive self.now.state) (NoneIsLive self.now.state) }
         ensures listed { result ≡ has_live self.now.state }

@@ -33,7 +33,7 @@ pub(crate) struct Memo {
 }
 
 impl Memo {
-    /// Nothing is known. Takes no memory.
+    /// Returns a memo that knows nothing. Takes no memory.
     pub(crate) fn new(alloc: Global) -> Memo
         ensures { result.txn ≡ None }
     {
@@ -51,7 +51,7 @@ impl Memo {
         self.txn = None;
     }
 
-    /// The front that is known for a transaction, if there is one.
+    /// Returns the front that is known for a transaction, if there is one.
     pub(crate) fn front_of(&self, txn: TxnId) -> Option<&Front>
         ensures { IfSome result (λ front. (self.now.txn ≡ Some txn)
             × (front.now ≡ self.now.front)) }
@@ -71,7 +71,7 @@ impl Memo {
         }
     }
 
-    /// Whether one of these edits is of an entry in a directory on the way.
+    /// Returns whether one of these edits is of an entry in a directory on the way.
     fn is_one_passed(&self, edits: &Edits<'_>) -> bool
         ensures { result ≡ false → AreElsewhere (front_entries self.now.front) edits.now }
     {
@@ -87,7 +87,7 @@ impl Memo {
         false
     }
 
-    /// Whether an edit, if there is one, is of an entry in a directory on the way.
+    /// Returns whether an edit, if there is one, is of an entry in a directory on the way.
     fn is_passed(&self, edit: Option<&Edit<'_>>) -> bool
         ensures { result ≡ false
             → AreElsewhere (front_entries self.now.front)
@@ -102,7 +102,7 @@ impl Memo {
         }
     }
 
-    /// Whether an entry on the way is in a directory.
+    /// Returns whether an entry on the way is in a directory.
     fn passes(&self, dir: u64) -> bool
         ensures { result ≡ false → StandElsewhere (front_entries self.now.front) dir }
     {
@@ -158,7 +158,7 @@ impl Memo {
         }
     }
 
-    /// The front of a path, if it spares enough besides what is known.
+    /// Returns the front of a path, if it spares enough besides what is known.
     fn worth<'p>(&self, txn: TxnId, path: &'p FilePath) -> Option<JudgedPath<'p>>
         ensures { IfSome result (λ front. front.trailing ≡ true) }
     {
@@ -174,7 +174,7 @@ impl Memo {
         Some(front)
     }
 
-    /// How many bytes of a path are spared by what is known.
+    /// Returns how many bytes of a path are spared by what is known.
     fn spared(&self, txn: TxnId, path: &[u8]) -> usize {
         match self.front_of(txn) {
             Some(front) if path.starts_with(front.text.as_slice()) => front.text.len(),
@@ -258,7 +258,7 @@ impl Memo {
     }
 }
 
-/// The path of a call that has one.
+/// Returns the path of a call that has one.
 fn path_of(call: &Call) -> Option<&FilePath> {
     match call {
         Call::Mkdir { path, .. }

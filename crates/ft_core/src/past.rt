@@ -58,7 +58,7 @@ impl Model for Seen {
 impl Seen {
     ghost use Rattle.ft_core.specs.Noted.{seen_by};
 
-    /// The accesses of the call on the tree.
+    /// Returns the accesses of the call on the tree.
     #[inline(always)]
     pub(crate) fn by(_question: &Question<'_>) -> Seen
         ensures { result.accesses ≡ seen_by _question.now }
@@ -80,7 +80,7 @@ pub(crate) struct Grant<'a> {
 impl Past {
     ghost use Rattle.ft_core.specs.Noted.{turned, granted_too};
 
-    /// Nothing has happened since this tree.
+    /// Returns a past in which nothing has happened since this tree.
     #[inline(always)]
     pub(crate) fn new(_tree: &Tree) -> Past
         ensures { (result.tree ≡ tidy _tree.now) × (result.events ≡ []) }
@@ -88,7 +88,7 @@ impl Past {
         Past {}
     }
 
-    /// This happens too.
+    /// Adds an event.
     #[inline(always)]
     pub(crate) fn then(&self, _turn: &Turn) -> Past
         ensures { (result.tree ≡ self.now.tree)
@@ -97,7 +97,7 @@ impl Past {
         Past {}
     }
 
-    /// This call is granted too.
+    /// Adds a granted call.
     #[inline(always)]
     pub(crate) fn and(&self, _grant: &Grant<'_>) -> Past
         ensures { (result.tree ≡ self.now.tree)

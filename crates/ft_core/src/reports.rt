@@ -26,7 +26,7 @@ pub struct LiveChild {
 }
 
 impl Core {
-    /// The locks, by cell, owner, mode and kind.
+    /// Returns the locks, by cell, owner, mode and kind.
     pub fn lock_lines(&self) -> Result<Vec<LockLine>, Memory>
         ensures { IfOk result (λ lines. AreLockLines self.now.state lines.items) }
     {
@@ -44,8 +44,8 @@ impl Core {
         Ok(list)
     }
 
-    /// Each live transaction with each live child, in their order. Takes the time to sort the live
-    /// transactions.
+    /// Returns each live transaction with each live child, in their order. Takes the time to sort
+    /// the live transactions.
     pub fn children(&self) -> Result<Vec<LiveChild>, Memory>
         ensures { IfOk result (λ list. AreLiveChildren self.now.state list.items) }
     {

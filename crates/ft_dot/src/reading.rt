@@ -130,7 +130,7 @@ fn members_in(alloc: Global, words: Words<'_>) -> Result<Option<Vec<TxnId>>, All
     Ok(Some(members))
 }
 
-/// Transactions with their ranks.
+/// Returns transactions with their ranks.
 fn ranks_in(alloc: Global, words: Words<'_>) -> Result<Option<Vec<(TxnId, u64)>>, AllocError>
     ensures { IfOk result (λ ranks. option_map (λ list. list.items) ranks
         ≡ each rank_of words.entry) }

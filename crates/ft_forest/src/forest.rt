@@ -33,7 +33,7 @@ pub struct Forest {
     records: Records,
 }
 
-/// Where a subtransaction may begin: the place of its parent, and its own depth.
+/// The room for a new subtransaction: the place of its parent, and its own depth.
 #[derive(Drop)]
 struct Room {
     parent: usize,
@@ -306,8 +306,8 @@ impl Forest {
         Ok(parent)
     }
 
-    /// Aborts a transaction and every live one below it, each before its parent. What had committed
-    /// stays committed.
+    /// Aborts a transaction and every live one below it, each before its parent. A transaction that
+    /// had committed stays committed.
     ///
     /// Refuses with `NoTxn` and `Ended`, in this order. Takes no memory, and the time of the live
     /// transactions at or below it.

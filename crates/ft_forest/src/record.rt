@@ -7,12 +7,12 @@ ghost use Rattle.ft_forest.specs.Records.{parent_by, state_by};
 
 use crate::state::State;
 
-/// What is kept for each transaction, even after it has ended, in one number. The number is the
+/// The record of each transaction, even after it has ended, in one number. The number is the
 /// discriminant of its state, plus 4 times its parent's place plus one (0 at the top level).
 #[derive(Clone, Copy)]
 pub struct Record(pub u64);
 
-/// What is kept in addition for a live transaction.
+/// The additional record of a live transaction.
 #[derive(Clone, Copy)]
 pub struct LiveRecord {
     pub depth: u64,

@@ -1,8 +1,8 @@
-//! What happens under nested transactions, and what every history of it keeps.
+//! Histories of nested transactions, and the properties that every history keeps.
 //!
 //! The theorems cover the owners of calls, the standing calls, and the effects of an undo and an
-//! abort. The main one is that the store, changed in place, is always that of the standing calls
-//! alone.
+//! abort. The main one is that the store, changed in place, is always that of only the standing
+//! calls.
 //!
 //! The definitions are in `specs`, and the theorems for any lawful calls are in `proofs`. No
 //! function here has a body to run. Its `ensures` is a theorem at a tiny tree of directories and
@@ -22,8 +22,8 @@ ghost use Rattle.ft_laws.specs.Tiny.{tiny_calls};
 ghost use Rattle.ft_laws.specs.Tiny.Cell.{Entry};
 ghost use Rattle.ft_laws.specs.Tiny.Node.{FileNode};
 
-/// After every legal history, the store that was changed in place is that of the standing calls
-/// alone, made one after another from the base. Each standing call then gets its recorded reply.
+/// After every legal history, the store that was changed in place is that of only the standing
+/// calls, made one after another from the base. Each standing call then gets its recorded reply.
 pub fn headline()
     ensures { Headline tiny_calls }
 {}

@@ -12,8 +12,8 @@ use ft_cells::{Attributes, Timestamp};
 use ft_copy::{CopyFault, CopyLimits, CopyStop, Source, Target, copy};
 use std::alloc::Global;
 
-/// Carries out steps, one after another, by a copy of the tree to which they lead. What no step
-/// names is left as it is.
+/// Carries out steps, one after another, by a copy of the tree to which they lead. Anything that no
+/// step names is left as it is.
 ///
 /// Returns the maker too. If something fails, a prefix of the steps was carried out.
 pub fn carry_out<S: Source, M: Maker>(

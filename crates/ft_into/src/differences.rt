@@ -23,13 +23,13 @@ pub struct Differences {
 
 /// Compares a tree with the reports of a source on a directory. Exactly what differs takes a step:
 /// a directory or a file that is missing or has other attributes, a file that has other bytes or
-/// another time, a symbolic link that leads elsewhere, and a name of another file. What the tree
-/// does not have is removed if that is wished, and else stays. Something of another kind that
-/// blocks a path is removed too. If that is not wished, the fault is `Exists`.
+/// another time, a symbolic link that leads elsewhere, and a name of another file. Anything that
+/// the tree does not have is removed if that is wished, and else stays. Something of another kind
+/// that blocks a path is removed too. If that is not wished, the fault is `Exists`.
 ///
 /// The steps come in the order of the copy of the tree: each directory before its contents, then
 /// the symbolic links, then removals, the contents of a directory before it, and at last the root.
-/// What blocks a path is removed right before the step to that path.
+/// Anything that blocks a path is removed right before the step to that path.
 pub fn compare<T: Source, S: Source>(
     alloc: Global,
     limits: CopyLimits,

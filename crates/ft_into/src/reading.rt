@@ -1,11 +1,10 @@
 // How the bytes of a file are compared.
-ghost use Rattle.std.specs.Prelude.{◌≡◌, ◌≤◌, ◌<◌, ◌⊎◌, take, length, IfErr, IfOk, IsFalse, IsTrue};
-ghost use Rattle.std.specs.Io.{ReadsAtMost};
+ghost use Rattle.std.specs.Prelude.{◌<◌, length, IfOk, IsFalse, IsTrue};
 ghost use Rattle.std.specs.Io.KnownBytes.{Consumes, IsAtEnd};
 ghost use Rattle.ft_into.specs.Compares.{AreOthers, HasMore};
 
-use ft_copy::CopyFault;
-use std::io::{ErrorKind, Read};
+use ft_copy::{CopyFault, read_piece};
+use std::io::Read;
 
 /// Returns whether these bytes are next in a file. It is read so far, or up to where it has others.
 pub(crate) fn goes_on<R: Read>(
@@ -42,20 +41,4 @@ pub(crate) fn is_over<R: Read>(file: &mut R) -> Result<bool, CopyFault>
 {
     let mut room = [0; 1];
     Ok(read_piece(file, &mut room)? == 0)
-}
-
-/// Reads once, and returns the number of bytes. Out of memory is a fault of its own.
-fn read_piece<R: Read>(file: &mut R, piece: &mut [u8]) -> Result<usize, CopyFault>
-    ensures bound { ReadsAtMost result piece.new }
-    ensures bytes { IfOk result
-        (λ n. Consumes (R.remaining file.old) (R.remaining file.new) (take n piece.new)) }
-    ensures cause { IfErr result
-        (λ trouble. (trouble ≡ CopyFault.Memory) ⊎ (trouble ≡ CopyFault.Read)) }
-    ensures end { IfOk result (λ n. n ≡ 0 → 1 ≤ length piece.old → IsAtEnd (R.remaining file.new)) }
-{
-    match file.read(piece) {
-        Ok(count) => Ok(count),
-        Err(error) if error.kind() == ErrorKind::OutOfMemory => Err(CopyFault::Memory),
-        Err(_) => Err(CopyFault::Read),
-    }
 }

@@ -7,7 +7,7 @@ use ft_copy::Found;
 use ft_words::PercentCoded;
 use std::fmt;
 
-/// What a step does at a path.
+/// The act of a step at a path.
 #[derive(Clone, Copy, Debug, PartialEq, Eq)]
 pub enum Act {
     /// It makes something. Nothing is there, or the steps before have removed it.
@@ -18,7 +18,7 @@ pub enum Act {
     Remove,
 }
 
-/// What is at a path, or is to be there.
+/// The thing that is at a path, or is to be there.
 #[derive(Clone, Copy, Debug, PartialEq, Eq)]
 pub enum Thing {
     /// A directory.

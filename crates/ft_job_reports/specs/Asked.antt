@@ -8,7 +8,7 @@ use Rattle.ft_posix.specs.declared.call.Call.TheVariants as posix
 use Rattle.ft_posix.specs.declared.call.Reply.{Reply}
 use Rattle.ft_posix.specs.declared.call.Reply.TheVariants as answer
 use Rattle.ft_core.specs.declared.request.Answer.TheVariants.{Granted}
-use Rattle.ft_strict.specs.Wells.{is_well}
+use Rattle.ft_line.specs.Wells.{is_well}
 use Rattle.ft_plan.specs.declared.job.JobKind.{JobKind}
 use Rattle.ft_plan.specs.declared.job.JobKind.TheVariants.{Free, Strict, Must}
 use Rattle.ft_plan.specs.Plans.{is_subs}

@@ -69,7 +69,7 @@ pub fn has_rising_stamps(calls: &[CallReport]) -> bool
     true
 }
 
-/// The parent of a transaction, if it has one.
+/// Returns the parent of a transaction, if it has one.
 #[tactic(auto, using(crate::proofs::Told::parent_is))]
 pub fn parent_of(events: &[Event], txn: TxnId) -> Option<TxnId>
     ensures { result ≡ parent posix_calls (told events.now) txn }

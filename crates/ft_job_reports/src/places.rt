@@ -7,7 +7,7 @@ use crate::report::Report;
 use ft_core::TxnId;
 use ft_plan::Job;
 
-/// The place of the job of this name.
+/// Returns the place of the job of this name.
 pub fn place_of(jobs: &[Job], name: &[u8]) -> Option<usize>
     ensures { result ≡ position (is_named name.now) jobs.now }
 {
@@ -21,21 +21,21 @@ fn is_named(name: &[u8], job: &Job) -> bool
     job.name.as_bytes() == name
 }
 
-/// The transaction of the job of this name.
+/// Returns the transaction of the job of this name.
 pub fn txn_of(jobs: &[Job], reports: &[Report], name: &[u8]) -> Option<TxnId>
     ensures { result ≡ txn_of jobs.now reports.now name.now }
 {
     report_of(jobs, reports, name)?.txn
 }
 
-/// The job that a report is of.
+/// Returns the job that a report is of.
 pub fn job_of<'a>(jobs: &'a [Job], report: &Report) -> Option<&'a Job>
     ensures { option_copied result ≡ slice_get jobs.now report.now.job }
 {
     jobs.get(report.job as usize)
 }
 
-/// The report of the job of this name.
+/// Returns the report of the job of this name.
 pub fn report_of<'a>(jobs: &[Job], reports: &'a [Report], name: &[u8]) -> Option<&'a Report>
     ensures { option_copied result ≡ report_of jobs.now reports.now name.now }
 {

@@ -35,7 +35,7 @@ pub struct CallReport {
 impl CallReport {
     ghost use Rattle.std.specs.Prelude.{◌≡◌, ◌↔◌, IsTrue};
     ghost use Rattle.ft_core.specs.declared.request.Answer.TheVariants.{Granted};
-    ghost use Rattle.ft_strict.specs.Wells.{is_well};
+    ghost use Rattle.ft_line.specs.Wells.{is_well};
 
     /// Returns whether it did not fail.
     pub(crate) fn is_well(&self) -> bool

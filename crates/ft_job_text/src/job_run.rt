@@ -6,6 +6,6 @@ use ft_jobs::{Pace, Plan};
 pub struct JobRun<'p, S> {
     pub plan: &'p Plan,
     pub pace: Pace,
-    /// Where it is shown how far they have come, if anywhere.
+    /// The screen that shows how far they have come, if there is one.
     pub screen: Option<S>,
 }

@@ -220,7 +220,7 @@ impl fmt::Display for EventText<'_> {
     }
 }
 
-/// How many calls were granted.
+/// Returns how many calls were granted.
 fn call_count(history: &[Event]) -> usize
     ensures { result ≡ count_by is_call history.now }
 {

@@ -41,7 +41,7 @@ enum Place {
 }
 
 impl<'a> Watch<'a> {
-    /// A watch of jobs, none of which has begun.
+    /// Returns a watch of jobs, none of which has begun.
     pub fn new(alloc: Global, jobs: &'a [Job]) -> Result<Watch<'a>, AllocError> {
         let mut places = Vec::new(alloc);
         for _ in jobs {
@@ -85,8 +85,8 @@ impl<'a> Watch<'a> {
         self.over.notify_all();
     }
 
-    /// How far the jobs have come, as text. Those wait that are at the same call as at the look
-    /// before.
+    /// Returns how far the jobs have come, as text. Those wait that are at the same call as at the
+    /// look before.
     pub fn line<R: Wait>(&self, rt: &R, alloc: Global) -> Result<String, AllocError> {
         let mut noted = self.noted.lock(rt);
         let waiting = names_of_waiting(alloc, self.jobs, noted.places.as_slice())?;
@@ -162,12 +162,12 @@ impl Noted {
     }
 }
 
-/// How many jobs are at this place.
+/// Returns how many jobs are at this place.
 fn count_of(places: &[Place], wanted: Place) -> usize {
     places.iter().filter(|&&place| place == wanted).count()
 }
 
-/// The names of the jobs that wait.
+/// Returns the names of the jobs that wait.
 fn names_of_waiting<'a>(
     alloc: Global,
     jobs: &'a [Job],

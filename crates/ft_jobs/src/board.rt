@@ -72,7 +72,7 @@ pub enum Start {
 }
 
 impl Board {
-    /// A board of these jobs, none of which has started.
+    /// Returns a board of these jobs, none of which has started.
     pub fn new(alloc: Global, jobs: &[Job]) -> Result<Board, Memory> {
         let mut places = Vec::new(alloc);
         let mut reports = Vec::new(alloc);
@@ -116,7 +116,7 @@ impl Board {
         Some(at)
     }
 
-    /// How a job begins that was taken.
+    /// Returns how a job begins that was taken.
     pub fn start_of<R: Wait>(&self, rt: &R, job: usize) -> Start {
         self.places.lock(rt).start_of(job)
     }

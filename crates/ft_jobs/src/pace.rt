@@ -23,8 +23,7 @@ pub struct Pace {
 impl Pace {
     ghost use Rattle.std.specs.Prelude.{◌≡◌};
 
-    /// A call asks so often at most, there are 64 threads at most, and no number of retries is
-    /// given.
+    /// Returns a pace of so many attempts a call and of 64 threads. It gives no number of retries.
     pub fn of_turns(turns: u64) -> Pace
         requires { 1 ≤ turns }
         ensures { result.turns ≡ turns }

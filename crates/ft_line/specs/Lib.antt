@@ -3,3 +3,4 @@ pub mod Requests
 pub mod Texts
 pub mod Reports
 pub mod Lines
+pub mod Wells

@@ -1,7 +1,7 @@
 // From the bytes of a line to what it means.
 ghost use Rattle.std.specs.Prelude.{◌≡◌, IfOk, codes, if◌then◌else◌, Some, None};
 ghost use Rattle.std.specs.Str.{bytes_eq};
-ghost use Rattle.ft_line.specs.Requests.{parse_line, asked_by, asked_by_txn, asked_by_word, lone_words, txn_request};
+ghost use Rattle.ft_line.specs.Requests.{parse_line, asked_by, asked_by_txn, asked_by_word, lone_words, or_bad, txn_request};
 ghost use Rattle.ft_words.specs.Calls.{look_up, Reads};
 
 use crate::line::{Query, ScriptLine};
@@ -16,9 +16,18 @@ use std::alloc::Global;
 pub fn parse_line(alloc: Global, line: &[u8]) -> Result<ScriptLine, Memory>
     ensures { IfOk result (λ meaning. meaning ≡ parse_line line.now) }
 {
-    let Some(words) = Words::of_line(line) else {
-        return Ok(ScriptLine::Silent);
-    };
+    match Words::of_line(line) {
+        Some(words) => parse_words(alloc, words),
+        None => Ok(ScriptLine::Silent),
+    }
+}
+
+/// Returns the meaning of a line that has these words.
+///
+/// Fails only for lack of memory.
+pub fn parse_words(alloc: Global, words: Words<'_>) -> Result<ScriptLine, Memory>
+    ensures { IfOk result (λ meaning. meaning ≡ or_bad (asked_by words.entry)) }
+{
     match asked_by(alloc, words) {
         Ok(meaning) => Ok(meaning),
         Err(ParseError::Misspelt) => Ok(ScriptLine::Bad),

@@ -13,7 +13,7 @@ use ft_words::ReplyText;
 use itoa::Buffer;
 
 /// Puts the text of an answer after another text.
-pub(crate) fn put_answer(text: &mut String, answer: &Answer) -> Result<(), Memory>
+pub fn put_answer(text: &mut String, answer: &Answer) -> Result<(), Memory>
     ensures ok { OnOk result (string_bytes text.new ≡ string_bytes text.old ++ text_of answer.now) }
 {
     match answer {
@@ -40,19 +40,12 @@ fn put_reply(text: &mut String, reply: &Reply) -> Result<(), Memory>
         Reply::Done => Ok(text.push_str("ok")?),
         Reply::Number(number) => put_number(text, "ok ", *number),
         Reply::Failed(errno) => Ok(text.push_str(errno.name())?),
-        Reply::Info {
-            kind,
-            number,
-            links,
-            size,
-            attributes: None,
-            time: None,
-        } => {
-            put_number(text, kind_word(*kind), *number)?;
-            put_number(text, " ", *links)?;
-            put_number(text, " ", *size)
+        Reply::Info(info) if info.attributes.is_none() && info.time.is_none() => {
+            put_number(text, kind_word(info.kind), info.number)?;
+            put_number(text, " ", info.links)?;
+            put_number(text, " ", info.size)
         }
-        Reply::Names(_) | Reply::Bytes(_) | Reply::Info { .. } => {
+        Reply::Names(_) | Reply::Bytes(_) | Reply::Info(_) => {
             Ok(write!(text, "{}", ReplyText(reply))?)
         }
     }

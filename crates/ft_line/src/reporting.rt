@@ -15,7 +15,7 @@ use std::alloc::Global;
 /// instead.
 ///
 /// Fails only for lack of memory for its text.
-pub(crate) fn report_of(alloc: Global, report: Query, core: &Core) -> Result<String, Memory>
+pub fn report_of(alloc: Global, report: Query, core: &Core) -> Result<String, Memory>
     ensures { IfOk result (λ text. IsReport core.now.state report (string_bytes text)) }
 {
     match whole_report_of(alloc, report, core)? {

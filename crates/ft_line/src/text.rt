@@ -42,7 +42,7 @@ impl fmt::Display for TxnList<'_> {
     }
 }
 
-/// The name of a refusal.
+/// Returns the name of a refusal.
 pub fn fault_name(fault: Fault) -> &'static str
     ensures { result.now ≡ fault_name fault }
 {

@@ -2,9 +2,10 @@
 ghost use Rattle.std.specs.Prelude.{◌≡◌, ◌≤◌, IfOk, min};
 ghost use Rattle.ft_core.specs.Limits.{default_limits};
 
-use crate::script::{has_owners, said_mode};
+use crate::script::{has_owners, has_top_mode, has_top_owners};
+use crate::spelling::Spelling;
 use ft_base::Memory;
-use ft_cells::{Attributes, Kind, Timestamp};
+use ft_cells::{Attributes, Timestamp};
 use ft_copy::{
     CopyFault, CopyLimits, FileId, Found, Leading, Listing, Opened, PIECE, Source, Target, copy,
 };
@@ -12,9 +13,9 @@ use ft_core::Limits;
 use std::alloc::Global;
 use std::cell::Cell;
 
-/// Returns the limits that a core needs on which a script of this source is to be played: the
-/// default ones, or if that is not enough, those for as large files and as many calls, but no more
-/// than `most`.
+/// Returns the limits that a core needs on which only a script of this source, spelled so, is to be
+/// played: the default ones, or if that is not enough, those for as large files and as many calls,
+/// but no more than `most`.
 ///
 /// No file is read for it: its size is what the source reports. If the source can't report
 /// something, or reports what is not allowed, what was reported before counts. Fails only for lack
@@ -23,6 +24,7 @@ pub fn needs_of<S: Source>(
     alloc: Global,
     most: Limits,
     set_id: bool,
+    spelling: Spelling<'_>,
     source: &S,
 ) -> Result<Limits, Memory>
     ensures size { IfOk result (λ limits. limits.file_size ≤ most.file_size) }
@@ -44,7 +46,7 @@ pub fn needs_of<S: Source>(
         largest: Cell::new(0),
         pieces: Cell::new(0),
     };
-    let mut calls = CallCount { count: 0 };
+    let mut calls = CallCount { spelling, count: 0 };
     let allowed = CopyLimits {
         file_size: most.file_size,
         links: most.links,
@@ -117,11 +119,12 @@ impl<S: Source> Source for CountedSource<'_, S> {
 
 /// How many calls a script makes besides those that write.
 #[derive(Drop)]
-struct CallCount {
+struct CallCount<'a> {
+    spelling: Spelling<'a>,
     count: u64,
 }
 
-impl CallCount {
+impl CallCount<'_> {
     /// Adds calls to the count, which stops at the greatest number.
     fn add(&mut self, calls: u64) -> Result<(), CopyFault> {
         self.count = self.count.saturating_add(calls);
@@ -129,9 +132,9 @@ impl CallCount {
     }
 }
 
-impl Target for CallCount {
+impl Target for CallCount<'_> {
     fn start(&mut self) -> Result<(), CopyFault> {
-        Ok(())
+        self.add(u64::from(!self.spelling.top.is_empty()))
     }
 
     fn folder(&mut self, _path: &[u8], attributes: Attributes) -> Result<(), CopyFault> {
@@ -159,8 +162,9 @@ impl Target for CallCount {
     }
 
     fn finish(&mut self, attributes: Attributes) -> Result<(), CopyFault> {
-        let mode = said_mode(Kind::Dir, attributes.mode);
-        self.add(u64::from(mode.is_some()) + u64::from(has_owners(attributes)))
+        let modes = u64::from(has_top_mode(self.spelling, attributes));
+        let owners = u64::from(has_top_owners(self.spelling, attributes));
+        self.add(modes + owners)
     }
 
     fn give_up(&mut self) {}

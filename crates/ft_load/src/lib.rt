@@ -4,6 +4,8 @@
 mod counting;
 mod loading;
 mod script;
+mod spelling;
 
 pub use counting::needs_of;
 pub use loading::load;
+pub use spelling::{Form, Spelling};

@@ -1,53 +1,59 @@
 // A script as a target.
-ghost use Rattle.std.specs.Prelude.{◌≡◌, ◌⊎◌, ◌<◌, suc, true, IfErr, IfOk, IsTrue, OnOk};
-ghost use Rattle.ft_path.specs.Name.{has_nul};
+ghost use Rattle.std.specs.Prelude.{◌≡◌, ◌⊎◌, ◌<◌, suc, IfErr, IfOk, IfSome, IsTrue, OnOk};
 ghost use Rattle.std.specs.Option.{option_to_list};
-ghost use Rattle.ft_load.specs.Scripts.{FailsToSay, FailsToWriteCall, FailsToWriteCalls, Says, WritesCall, WritesCalls, chmod_of, chown_of, fchown_of, futime_of, has_owners, said_mode};
+ghost use Rattle.ft_load.specs.Spellings.{PathFits, below, top_path};
+ghost use Rattle.ft_load.specs.Scripts.{CallFits, FailsToSay, FailsToWriteCall, FailsToWriteCalls, IsBadPath, IsFull, IsWithinCalls, Says, WritesCall, WritesCalls, chown_of, fchown_of, futime_of, has_owners, has_top_mode, has_top_owners, said_mode, top_chmod, top_chown, top_mkdir};
 
+use crate::spelling::{CallLine, Form, Spelling};
 use ft_cells::{AccessMode, Attributes, Kind, Timestamp};
 use ft_copy::{CopyFault, Target};
-use ft_core::Limits;
 use ft_needs::NeedsLine;
-use ft_path::{FilePath, PathFault};
+use ft_path::{FilePath, LONGEST_PATH, PathFault};
 use ft_posix::{Call, OpenFlags};
 use ft_script::write_out;
-use ft_words::CallText;
 use std::alloc::Global;
 use std::io::Write;
 
-/// The path of the root.
-const ROOT_PATH: &[u8] = b"/";
-
-/// A script of one transaction, which is written as its requests come in. It is for a core that is
-/// new: the transaction is number 1 and the first call has stamp 2.
+/// A script of one transaction, which is written as its requests come in.
 #[derive(Drop)]
-pub(crate) struct Script<W> {
+pub(crate) struct Script<'a, W> {
     pub(crate) alloc: Global,
-    // those of the core that it needs
-    pub(crate) limits: Limits,
+    pub(crate) form: Form<'a>,
     pub(crate) writer: W,
-    // the stamp of the next call
+    // the stamp of the next call, if the core is new
     pub(crate) next: u64,
-    // the descriptor of the open file
+    // the descriptor of the open file then
     pub(crate) fd: u64,
 }
 
-impl<W: Write> Script<W> {
+impl<W: Write> Script<'_, W> {
+    /// Returns the stamp after that of the next call. More calls than the limits allow are refused.
+    fn stamp_after(&self) -> Result<u64, CopyFault>
+        ensures ok { IfOk result (λ next. (next ≡ suc self.now.next)
+            × IsWithinCalls self.now.form next) }
+        ensures err { IfErr result
+            (λ trouble. (trouble ≡ CopyFault.Full) × IsFull self.now.form self.now.next) }
+    {
+        let Some(next) = self.next.checked_add(1) else {
+            return Err(CopyFault::Full);
+        };
+        if next.saturating_sub(2) > self.form.limits.calls {
+            return Err(CopyFault::Full);
+        }
+        Ok(next)
+    }
+
     /// Writes a call. More calls than the limits allow are refused.
     fn ask(&mut self, call: &Call) -> Result<(), CopyFault>
         ensures call { OnOk result (WritesCall W.contents call.now self.old self.new) }
         ensures err { IfErr result
             (λ trouble. FailsToWriteCall W.contents trouble call.now self.old self.new) }
         ensures fd { self.new.fd ≡ self.old.fd }
-        ensures limits { self.new.limits ≡ self.old.limits }
+        ensures form { self.new.form ≡ self.old.form }
     {
-        let Some(next) = self.next.checked_add(1) else {
-            return Err(CopyFault::Full);
-        };
-        if next.saturating_sub(2) > self.limits.calls {
-            return Err(CopyFault::Full);
-        }
-        let line = format!(in self.alloc; "1 {}\n", CallText(call))?;
+        let next = self.stamp_after()?;
+        let spelling = self.form.spelling;
+        let line = format!(in self.alloc; "{}", CallLine { spelling, call })?;
         self.say(line.as_str())?;
         self.next = next;
         Ok(())
@@ -60,7 +66,7 @@ impl<W: Write> Script<W> {
         ensures err { IfErr result (λ trouble. FailsToWriteCalls W.contents trouble
             (option_to_list call) self.old self.new) }
         ensures fd { self.new.fd ≡ self.old.fd }
-        ensures limits { self.new.limits ≡ self.old.limits }
+        ensures form { self.new.form ≡ self.old.form }
     {
         match call {
             Some(call) => self.ask(&call),
@@ -77,7 +83,7 @@ impl<W: Write> Script<W> {
             (W.contents self.new.writer)) }
         ensures next { self.new.next ≡ self.old.next }
         ensures fd { self.new.fd ≡ self.old.fd }
-        ensures limits { self.new.limits ≡ self.old.limits }
+        ensures form { self.new.form ≡ self.old.form }
     {
         match write_out(&mut self.writer, text.as_bytes()) {
             Ok(()) => Ok(()),
@@ -86,34 +92,44 @@ impl<W: Write> Script<W> {
     }
 }
 
-impl<W: Write> Target for Script<W> {
+impl<W: Write> Target for Script<'_, W> {
     ghost use Rattle.std.specs.Prelude.{◌≡◌};
     ghost use Rattle.ft_load.specs.Scripts.{BreaksOff, Scripts};
 
-    ghost does = { λ old asked new. Scripts old.limits asked old.next old.fd (W.contents old.writer)
-        new.next new.fd (W.contents new.writer) × (new.limits ≡ old.limits) };
+    ghost does = { λ old asked new. Scripts old.form asked old.next old.fd (W.contents old.writer)
+        new.next new.fd (W.contents new.writer) × (new.form ≡ old.form) };
 
-    ghost fails = { λ old asked trouble new. BreaksOff old.limits trouble asked old.next old.fd
+    ghost fails = { λ old asked trouble new. BreaksOff old.form trouble asked old.next old.fd
         (W.contents old.writer) (W.contents new.writer) };
 
     fn start(&mut self) -> Result<(), CopyFault> {
-        let line = format!(in self.alloc; "{}begin\n", NeedsLine(&self.limits))?;
-        self.say(line.as_str())
+        let spelling = self.form.spelling;
+        let needs = NeedsLine(&self.form.limits);
+        let front = format!(in self.alloc; "{needs}{}", spelling.begin_line())?;
+        let Some(call) = top_mkdir(self.alloc, spelling)? else {
+            return self.say(front.as_str());
+        };
+        let next = self.stamp_after()?;
+        let call = &call;
+        let lines = format!(in self.alloc; "{front}{}", CallLine { spelling, call })?;
+        self.say(lines.as_str())?;
+        self.next = next;
+        Ok(())
     }
 
     fn folder(&mut self, path: &[u8], attributes: Attributes) -> Result<(), CopyFault> {
         let call = Call::Mkdir {
-            path: path_of(self.alloc, path)?,
+            path: path_below(self.alloc, self.form.spelling, path)?,
             mode: said_mode(Kind::Dir, attributes.mode),
         };
-        let chown = chown_of(self.alloc, path, attributes)?;
+        let chown = chown_of(self.alloc, self.form.spelling, path, attributes)?;
         self.ask(&call)?;
         self.ask_if(chown)
     }
 
     fn open(&mut self, path: &[u8], attributes: Attributes) -> Result<(), CopyFault> {
         let call = Call::Open {
-            path: path_of(self.alloc, path)?,
+            path: path_below(self.alloc, self.form.spelling, path)?,
             flags: OpenFlags {
                 access: AccessMode::WriteOnly,
                 create: true,
@@ -146,8 +162,8 @@ impl<W: Write> Target for Script<W> {
 
     fn link(&mut self, first: &[u8], path: &[u8]) -> Result<(), CopyFault> {
         let call = Call::Link {
-            old: path_of(self.alloc, first)?,
-            new: path_of(self.alloc, path)?,
+            old: path_below(self.alloc, self.form.spelling, first)?,
+            new: path_below(self.alloc, self.form.spelling, path)?,
         };
         self.ask(&call)
     }
@@ -155,34 +171,51 @@ impl<W: Write> Target for Script<W> {
     fn symlink(&mut self, to: &[u8], path: &[u8]) -> Result<(), CopyFault> {
         let call = Call::Symlink {
             target: path_of(self.alloc, to)?,
-            path: path_of(self.alloc, path)?,
+            path: path_below(self.alloc, self.form.spelling, path)?,
         };
         self.ask(&call)
     }
 
     fn finish(&mut self, attributes: Attributes) -> Result<(), CopyFault> {
-        let chmod = chmod_of(self.alloc, ROOT_PATH, attributes)?;
-        let chown = chown_of(self.alloc, ROOT_PATH, attributes)?;
+        let spelling = self.form.spelling;
+        let chmod = top_chmod(self.alloc, spelling, attributes)?;
+        let chown = top_chown(self.alloc, spelling, attributes)?;
         self.ask_if(chmod)?;
         self.ask_if(chown)?;
-        self.say("commit 1\n")
+        self.say(spelling.commit_line())
     }
 
     fn give_up(&mut self) {}
 }
 
-/// Returns the path that has these bytes.
+/// Returns the path that has these bytes. A path that is too long is refused.
 fn path_of(alloc: Global, bytes: &[u8]) -> Result<FilePath, CopyFault>
     ensures ok { IfOk result (λ path. path ≡ bytes.now) }
+    ensures fits { OnOk result (PathFits bytes.now) }
     ensures err { IfErr result
-        (λ trouble. (trouble ≡ CopyFault.Memory) ⊎ ((trouble ≡ CopyFault.BadName)
-        × (has_nul bytes.now ≡ true))) }
+        (λ trouble. (trouble ≡ CopyFault.Memory) ⊎ IsBadPath trouble bytes.now) }
 {
+    if bytes.len() > LONGEST_PATH {
+        return Err(CopyFault::PathTooLong);
+    }
     match FilePath::new(alloc, bytes) {
         Ok(path) => Ok(path),
         Err(PathFault::Memory) => Err(CopyFault::Memory),
         Err(PathFault::NulByte) => Err(CopyFault::BadName),
     }
+}
+
+/// Returns the path in the tree of what has this path in the source. A path that is too long is
+/// refused.
+fn path_below(alloc: Global, spelling: Spelling<'_>, path: &[u8]) -> Result<FilePath, CopyFault>
+    ensures ok { IfOk result (λ whole. whole ≡ below spelling.entry path.now) }
+    ensures fits { OnOk result (PathFits (below spelling.entry path.now)) }
+    ensures err { IfErr result (λ trouble. (trouble ≡ CopyFault.Memory)
+        ⊎ IsBadPath trouble (below spelling.entry path.now)) }
+{
+    let mut whole = Vec::from_slice(alloc, spelling.top)?;
+    whole.extend_from_slice(path)?;
+    path_of(alloc, whole.as_slice())
 }
 
 /// Returns the mode of what is made, if it must be set: it is not that which a directory or file
@@ -204,12 +237,17 @@ pub(crate) fn has_owners(attributes: Attributes) -> bool
     attributes.owner != 0 || attributes.group != 0
 }
 
-/// Returns the call that sets the owner and the group of what is at a path, if they must be set.
-fn chown_of(alloc: Global, path: &[u8], attributes: Attributes) -> Result<Option<Call>, CopyFault>
-    ensures ok { IfOk result (λ call. call ≡ chown_of path.now attributes) }
-    ensures err { IfErr result
-        (λ trouble. (trouble ≡ CopyFault.Memory) ⊎ ((trouble ≡ CopyFault.BadName)
-        × (has_nul path.now ≡ true))) }
+/// Returns the call that sets the owner and the group of what has this path in the source, if they
+/// must be set.
+fn chown_of(
+    alloc: Global,
+    spelling: Spelling<'_>,
+    path: &[u8],
+    attributes: Attributes,
+) -> Result<Option<Call>, CopyFault>
+    ensures ok { IfOk result (λ call. call ≡ chown_of (below spelling.entry path.now) attributes) }
+    ensures err { IfErr result (λ trouble. (trouble ≡ CopyFault.Memory)
+        ⊎ IsBadPath trouble (below spelling.entry path.now)) }
 {
     if !has_owners(attributes) {
         return Ok(None);
@@ -217,7 +255,7 @@ fn chown_of(alloc: Global, path: &[u8], attributes: Attributes) -> Result<Option
     Ok(Some(Call::Chown {
         owner: Some(attributes.owner),
         group: Some(attributes.group),
-        path: path_of(alloc, path)?,
+        path: path_below(alloc, spelling, path)?,
     }))
 }
 
@@ -243,18 +281,73 @@ fn futime_of(fd: u64, time: Option<Timestamp>) -> Option<Call>
     Some(Call::Futime { fd, time })
 }
 
-/// Returns the call that sets the mode of the directory at a path, if it must be set.
-fn chmod_of(alloc: Global, path: &[u8], attributes: Attributes) -> Result<Option<Call>, CopyFault>
-    ensures ok { IfOk result (λ call. call ≡ chmod_of path.now attributes) }
+/// Returns the call that makes the directory that holds everything, unless it is the root.
+fn top_mkdir(alloc: Global, spelling: Spelling<'_>) -> Result<Option<Call>, CopyFault>
+    ensures ok { IfOk result (λ call. call ≡ top_mkdir spelling.entry) }
+    ensures fits { OnOk result (IfSome (top_mkdir spelling.entry) CallFits) }
     ensures err { IfErr result
-        (λ trouble. (trouble ≡ CopyFault.Memory) ⊎ ((trouble ≡ CopyFault.BadName)
-        × (has_nul path.now ≡ true))) }
+        (λ trouble. (trouble ≡ CopyFault.Memory) ⊎ IsBadPath trouble (top_path spelling.entry)) }
 {
-    let Some(mode) = said_mode(Kind::Dir, attributes.mode) else {
+    if spelling.top.is_empty() {
         return Ok(None);
-    };
+    }
+    Ok(Some(Call::Mkdir {
+        path: path_of(alloc, spelling.top)?,
+        mode: None,
+    }))
+}
+
+/// Returns whether the mode of the directory that holds everything must be said.
+pub(crate) fn has_top_mode(spelling: Spelling<'_>, attributes: Attributes) -> bool
+    ensures { result ≡ has_top_mode spelling.entry attributes }
+{
+    !spelling.is_top_new() || said_mode(Kind::Dir, attributes.mode).is_some()
+}
+
+/// Returns whether its owner and its group must be said.
+pub(crate) fn has_top_owners(spelling: Spelling<'_>, attributes: Attributes) -> bool
+    ensures { result ≡ has_top_owners spelling.entry attributes }
+{
+    !spelling.is_top_new() || has_owners(attributes)
+}
+
+/// Returns the call that sets the mode of this directory, if it must be set.
+fn top_chmod(
+    alloc: Global,
+    spelling: Spelling<'_>,
+    attributes: Attributes,
+) -> Result<Option<Call>, CopyFault>
+    ensures ok { IfOk result (λ call. call ≡ top_chmod spelling.entry attributes) }
+    ensures fits { OnOk result (IfSome (top_chmod spelling.entry attributes) CallFits) }
+    ensures err { IfErr result
+        (λ trouble. (trouble ≡ CopyFault.Memory) ⊎ IsBadPath trouble (top_path spelling.entry)) }
+{
+    if !has_top_mode(spelling, attributes) {
+        return Ok(None);
+    }
     Ok(Some(Call::Chmod {
-        mode,
-        path: path_of(alloc, path)?,
+        mode: attributes.mode,
+        path: path_of(alloc, spelling.top_path())?,
+    }))
+}
+
+/// Returns the call that sets its owner and its group, if they must be set.
+fn top_chown(
+    alloc: Global,
+    spelling: Spelling<'_>,
+    attributes: Attributes,
+) -> Result<Option<Call>, CopyFault>
+    ensures ok { IfOk result (λ call. call ≡ top_chown spelling.entry attributes) }
+    ensures fits { OnOk result (IfSome (top_chown spelling.entry attributes) CallFits) }
+    ensures err { IfErr result
+        (λ trouble. (trouble ≡ CopyFault.Memory) ⊎ IsBadPath trouble (top_path spelling.entry)) }
+{
+    if !has_top_owners(spelling, attributes) {
+        return Ok(None);
+    }
+    Ok(Some(Call::Chown {
+        owner: Some(attributes.owner),
+        group: Some(attributes.group),
+        path: path_of(alloc, spelling.top_path())?,
     }))
 }

@@ -40,7 +40,7 @@ pub struct Locks {
     bulk: BulkReleased,
     /// Whether every lock kept its cell from a sweep when `bulk` was released, and not only the
     /// locks by which the cell's place may have been emptied.
-    bulk_all: bool,
+    bulk_keeps_all: bool,
     /// Whether every lock keeps its cell from a sweep. A release one by one and a grant while
     /// released cells are left make this true, and a release of all locks at once makes it false.
     keeps_all: bool,
@@ -53,7 +53,7 @@ impl Drop for Locks {
             alloc: _,
             holdings: _,
             bulk: _,
-            bulk_all: _,
+            bulk_keeps_all: _,
             keeps_all: _,
         } = self;
     }
@@ -80,10 +80,10 @@ impl Model for Locks {
     ghost coded = { coded_table };
 
     ghost view = { λ a. seen_as a.keeps_all
-        (with_bulk a.bulk_all a.bulk (table_of a.holdings.cells a.holdings.lists)) };
+        (with_bulk a.bulk_keeps_all a.bulk (table_of a.holdings.cells a.holdings.lists)) };
 
     ghost invariant = { λ a. IsKept a.holdings.cells a.holdings.lists
-        × AreSingle (left_in a.bulk_all a.bulk) };
+        × AreSingle (left_in a.bulk_keeps_all a.bulk) };
 }
 
 impl Locks {
@@ -97,7 +97,7 @@ impl Locks {
             alloc,
             holdings,
             bulk: BulkReleased::new(alloc),
-            bulk_all: false,
+            bulk_keeps_all: false,
             keeps_all: false,
         }
     }
@@ -230,7 +230,7 @@ impl Locks {
         let at_once = release_places(&mut self.holdings, &mut self.bulk, txn.0);
         self.holdings.close(txn.0);
         if at_once {
-            self.bulk_all = self.keeps_all;
+            self.bulk_keeps_all = self.keeps_all;
         }
         self.keeps_all = !at_once;
     }
@@ -264,7 +264,7 @@ impl Locks {
         ensures none { IfNone result ((self.old.released_cells ≡ set.empty)
             × (self.new ≡ self.old)) }
     {
-        let told = self.bulk.take(&self.holdings, self.bulk_all);
+        let told = self.bulk.take(&self.holdings, self.bulk_keeps_all);
         if told.is_some() {
             return told;
         }

@@ -21,7 +21,7 @@ impl<T, A: Allocator> Model for RawBox<T, A> {
 }
 
 impl<T: Drop, A: Allocator> RawBox<T, A> {
-    /// A box as its pointer.
+    /// Returns a box as its pointer.
     pub fn from_box(value: Box<T, A>) -> RawBox<T, A>
         ensures { result.value ≡ value.value }
     {
@@ -29,7 +29,7 @@ impl<T: Drop, A: Allocator> RawBox<T, A> {
         RawBox { at, alloc }
     }
 
-    /// The box again.
+    /// Returns the box again.
     pub fn into_box(self) -> Box<T, A>
         ensures { result.value ≡ self.value }
     {

@@ -1,9 +1,11 @@
-//! Which line of a plan is wrong, and why, in a sentence for its author.
+//! The line of a plan that is wrong, and the reason, in a sentence for its author.
 //!
 //! `ft_plan` decides what a plan is, and its clauses say so exactly. This crate only explains: no
-//! clause states which line it names, and it is asked only about bytes that are no plan.
+//! clause states which line it names. It is asked only about bytes that are no plan, in which
+//! numbers stand in place of the names of steps.
 #![tactic(auto)]
 
+use ft_names::{is_descriptor_word, is_name};
 use ft_plan::{JobName, LONGEST_PLAN};
 use ft_words::{ParseError, Words, parse_call, parse_descriptor_call, parse_u64};
 use std::alloc::Global;
@@ -13,21 +15,27 @@ const MOST_STRICT_JOBS: usize = 4_096;
 
 const MOST_FREE_JOBS: usize = 64;
 
-/// What is wrong with a job of more than two words.
+/// The mistake of a job with more than two words.
 const TWO_NAMES: &str = "a job has at most two names: its own, and the job around it";
 
 const NO_MUST: &str = "'must' is for strict plans";
+
+/// What is wrong with a call on what no step has opened.
+const NOT_OPENED: &str = "'@' needs the number or the name of an earlier step 'open' of the job";
+
+/// What is wrong with a plan that is too long.
+const TOO_LONG: &str = "it has more than 8,388,608 bytes, as it is or with numbers for its names";
 
 /// A mistake in a plan.
 #[derive(Clone, Copy)]
 pub struct Mistake {
     /// The number of the line, if it is in one.
     pub line: Option<u64>,
-    /// What is wrong there.
+    /// The reason why it is wrong.
     pub why: &'static str,
 }
 
-/// What stops the search: a mistake, or that there is no memory to go on.
+/// The reason to stop the search: a mistake, or that there is no memory to go on.
 #[derive(Clone, Copy)]
 enum Stop {
     Found(Mistake),
@@ -58,7 +66,7 @@ pub fn mistake_in(alloc: Global, text: &[u8]) -> Option<Mistake> {
 /// Reads the lines of a plan, up to the first mistake.
 fn read_lines(alloc: Global, text: &[u8]) -> Result<(), Stop> {
     if text.len() > LONGEST_PLAN {
-        return Err(wrong_whole("it has more than 8,388,608 bytes"));
+        return Err(wrong_whole(TOO_LONG));
     }
     let mut jobs = Jobs {
         alloc,
@@ -348,6 +356,9 @@ impl<'a> Seen<'a> {
         {
             return self.check_opened(line, number);
         }
+        if is_descriptor_word(name) && is_unknown(&words) {
+            return Err(wrong(line, NOT_OPENED));
+        }
         match parse_call(alloc, name, words) {
             Ok(_) => Ok(name == b"open".as_slice()),
             Err(ParseError::NoMemory) => Err(Stop::NoMemory),
@@ -365,10 +376,7 @@ impl<'a> Seen<'a> {
             .and_then(|before| usize::try_from(before).ok());
         match before.and_then(|before| self.opens.get(before)) {
             Some(opens) if *opens => Ok(false),
-            _ => Err(wrong(
-                line,
-                "'@' needs the number of an earlier step 'open' of the job",
-            )),
+            _ => Err(wrong(line, NOT_OPENED)),
         }
     }
 }
@@ -378,10 +386,24 @@ fn is_alone(word: &[u8]) -> bool {
     word == b"subs".as_slice() || word == b"commit".as_slice() || word == b"abort".as_slice()
 }
 
+/// Returns what comes after `@` in the first word, if that begins so.
+fn after_at<'a>(words: &Words<'a>) -> Option<&'a [u8]> {
+    let mut words = words.strip_first_byte(b'@')?;
+    words.next()
+}
+
 /// Returns the number of a step after `@`, if the first word is one.
 fn opened_by(words: &Words<'_>) -> Option<u64> {
-    let mut words = words.strip_first_byte(b'@')?;
-    parse_u64(words.next()?)
+    parse_u64(after_at(words)?)
+}
+
+/// Returns whether the first word is `@` and a name. The names that are known have numbers in their
+/// place, so this one is not known.
+fn is_unknown(words: &Words<'_>) -> bool {
+    match after_at(words) {
+        Some(name) => is_name(name),
+        None => false,
+    }
 }
 
 /// Returns whether words are a call on what a step opened.

@@ -30,7 +30,7 @@ impl Model for JobName {
 }
 
 impl JobName {
-    /// The name that a word is, if it is one.
+    /// Returns the name that a word is, if it is one.
     #[tactic(auto, using(crate::proofs::Naming::is_text, crate::proofs::Naming::is_name))]
     pub fn read(alloc: Global, word: &[u8]) -> Result<JobName, ParseError>
         ensures { Reads result (job_name_of word.now) }
@@ -46,7 +46,7 @@ impl JobName {
         }
     }
 
-    /// Its bytes.
+    /// Returns the bytes of the name.
     pub fn as_bytes(&self) -> &[u8]
         ensures { result.now ≡ self.now }
     {

@@ -59,7 +59,7 @@ impl Plan {
         Ok(Plan { jobs: jobs.into() })
     }
 
-    /// Its jobs, in order.
+    /// Returns the jobs of the plan, in order.
     pub fn jobs(&self) -> &[Job]
         ensures jobs { result.now ≡ self.now }
         ensures rules { is_plan self.now ≡ true }

@@ -13,7 +13,7 @@ const MOST_STRICT_JOBS: usize = 4096;
 
 const MOST_FREE_JOBS: usize = 64;
 
-/// Whether these jobs make a plan.
+/// Returns whether these jobs make a plan.
 pub fn is_plan(jobs: &[Job]) -> bool
     ensures { result ≡ is_plan jobs.now }
 {

@@ -26,7 +26,7 @@ use Rattle.ft_posix.specs.Looking.{Looking, noted}
 abbrev pub reply_of : Cells → PlannedReply → Reply
 reply_of cells Done = reply.Done
 reply_of cells (Number n) = reply.Number n
-reply_of cells (Info kind number links size attributes time) = reply.Info kind number links size attributes time
+reply_of cells (Info info) = reply.Info info
 reply_of cells (Failed e) = reply.Failed e
 reply_of cells (NamesOf d) = reply.Names (with_kinds (names_of cells d))
 reply_of cells (BytesOf file at len) = reply.Bytes (bytes_at (bytes_of cells file) at len)

@@ -112,7 +112,7 @@ truncate_parts limits len (Ok parts) = or_else failed (λ size. from_parts true 
 -- a directory, with its attributes: it has one link and size 0 (a choice of this project), and no
 -- time
 abbrev pub dir_info : ℕ → Looks Outcome
-dir_info dir = Look (DirAttributes dir) (λ attributes. Answer (told (Info DirKind dir 1 0 attributes None)))
+dir_info dir = Look (DirAttributes dir) (λ attributes. Answer (told (Info (record { kind = DirKind; number = dir; links = 1; size = 0; attributes = attributes; time = None }))))
 
 -- the attributes of a file; a link has the default ones, and no cell for them
 abbrev pub attributes_at : Form → ℕ → Looks (Option Attributes)
@@ -123,7 +123,7 @@ attributes_at LinkForm file = Answer None
 -- that of its target (XSH lstat)
 abbrev pub file_info : Form → ℕ → Looks Outcome
 file_info form file =
-    Look (Links file) (λ links. Look (Bytes file) (λ contents. then (attributes_at form file) (λ attributes. Answer (told (Info (kind_of_node (FileNode form file)) file links (length contents.bytes) attributes contents.time)))))
+    Look (Links file) (λ links. Look (Bytes file) (λ contents. then (attributes_at form file) (λ attributes. Answer (told (Info (record { kind = kind_of_node (FileNode form file); number = file; links = links; size = length contents.bytes; attributes = attributes; time = contents.time }))))))
 
 -- stat and lstat at the end of the walk: a missing name is ENOENT
 abbrev pub stat_spot : PathEnd → Looks Outcome

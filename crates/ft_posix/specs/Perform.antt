@@ -11,7 +11,7 @@ IsList Done = ⊥
 IsList (NamesReply names) = Unit {0}
 IsList (Number n) = ⊥
 IsList (BytesReply bytes) = Unit {0}
-IsList (Info kind number links size attributes time) = ⊥
+IsList (Info info) = ⊥
 IsList (Failed e) = ⊥
 
 -- the reply only reports something: names, what was found, or an error. It comes with no change.
@@ -20,7 +20,7 @@ OnlyTells Done = ⊥
 OnlyTells (NamesReply names) = Unit {0}
 OnlyTells (Number n) = ⊥
 OnlyTells (BytesReply bytes) = ⊥
-OnlyTells (Info kind number links size attributes time) = Unit {0}
+OnlyTells (Info info) = Unit {0}
 OnlyTells (Failed e) = Unit {0}
 
 -- the call is a read: only a read moves its descriptor's offset and returns a list; every other

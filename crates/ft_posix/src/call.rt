@@ -408,6 +408,24 @@ impl OpenFlags {
     }
 }
 
+/// The facts about a directory, a file or a symbolic link, to which a path leads or which a
+/// descriptor has open.
+#[derive(Clone, Copy, Debug, PartialEq, Eq)]
+pub struct FileInfo {
+    /// Whether it is a directory, a file or a symbolic link.
+    pub kind: Kind,
+    /// Its number.
+    pub number: u64,
+    /// Its count of links. A directory has one link, a choice of this project.
+    pub links: u64,
+    /// Its size in bytes. A directory has size 0, a choice of this project.
+    pub size: u64,
+    /// Its attributes, or none if they are the default ones.
+    pub attributes: Option<Attributes>,
+    /// The time of its bytes. There is none if none was set, or if the bytes have changed since.
+    pub time: Option<Timestamp>,
+}
+
 /// The reply of a call.
 #[derive(Debug, PartialEq, Eq, Drop)]
 pub enum Reply {
@@ -420,19 +438,8 @@ pub enum Reply {
     Number(u64),
     /// The bytes that were read, or the target of a symbolic link.
     Bytes(Sequence<u8>),
-    /// A directory, a file or a symbolic link, to which a path leads or which a descriptor has
-    /// open. It has its number, its count of links, its size in bytes, its attributes and the time
-    /// of its bytes. A directory has one link and size 0, a choice of this project. The attributes
-    /// are none if they are the default ones. The time is none if none was set, or if the bytes
-    /// have changed since.
-    Info {
-        kind: Kind,
-        number: u64,
-        links: u64,
-        size: u64,
-        attributes: Option<Attributes>,
-        time: Option<Timestamp>,
-    },
+    /// The facts about what a path leads to or a descriptor has open.
+    Info(FileInfo),
     /// The call failed with this error and changed nothing.
     Failed(Errno),
 }
@@ -451,21 +458,7 @@ impl Reply {
             Reply::Names(names) => copy_names(alloc, names.as_slice()),
             Reply::Number(number) => Ok(Reply::Number(*number)),
             Reply::Bytes(bytes) => Ok(Reply::Bytes(bytes.as_slice().to_vec(alloc)?.into())),
-            Reply::Info {
-                kind,
-                number,
-                links,
-                size,
-                attributes,
-                time,
-            } => Ok(Reply::Info {
-                kind: *kind,
-                number: *number,
-                links: *links,
-                size: *size,
-                attributes: *attributes,
-                time: *time,
-            }),
+            Reply::Info(info) => Ok(Reply::Info(*info)),
             Reply::Failed(errno) => Ok(Reply::Failed(*errno)),
         }
     }

@@ -4,10 +4,10 @@ ghost use Rattle.ft_body.specs.Bytes.{bytes_at};
 ghost use Rattle.ft_cells.specs.Cells.{bytes_of};
 ghost use Rattle.ft_posix.specs.Within.{IsWithin, AreWithin};
 
-use crate::call::Reply;
+use crate::call::{FileInfo, Reply};
 use ft_base::{Memory, ShortList};
 use ft_path::Errno;
-use ft_tree::{Attributes, Entry, HintedFile, Kind, Node, OpenFile, Rare, Timestamp, Tree};
+use ft_tree::{Attributes, Entry, HintedFile, Node, OpenFile, Rare, Timestamp, Tree};
 use std::alloc::Global;
 use std::marker::Model;
 
@@ -171,25 +171,14 @@ pub enum PlannedReply {
     Done,
     /// A descriptor, an offset, or how many bytes are written.
     Number(u64),
-    /// The `Info` about what a path leads to or a descriptor has open.
-    Info {
-        kind: Kind,
-        number: u64,
-        links: u64,
-        size: u64,
-        attributes: Option<Attributes>,
-        time: Option<Timestamp>,
-    },
+    /// The facts about what a path leads to or a descriptor has open.
+    Info(FileInfo),
     /// The call fails, with this error.
     Failed(Errno),
     /// The names of a directory.
     NamesOf(u64),
     /// The bytes of a file from an offset on, at most `len`.
-    BytesOf {
-        file: HintedFile,
-        at: u64,
-        len: u64,
-    },
+    BytesOf { file: HintedFile, at: u64, len: u64 },
 }
 
 /// The intent of a call: its reply, and the edits that are to be made.
@@ -228,21 +217,7 @@ impl PlannedReply {
         match self {
             PlannedReply::Done => Ok(Reply::Done),
             PlannedReply::Number(number) => Ok(Reply::Number(*number)),
-            PlannedReply::Info {
-                kind,
-                number,
-                links,
-                size,
-                attributes,
-                time,
-            } => Ok(Reply::Info {
-                kind: *kind,
-                number: *number,
-                links: *links,
-                size: *size,
-                attributes: *attributes,
-                time: *time,
-            }),
+            PlannedReply::Info(info) => Ok(Reply::Info(*info)),
             PlannedReply::Failed(errno) => Ok(Reply::Failed(*errno)),
             PlannedReply::NamesOf(dir) => Ok(Reply::Names(tree.names(*dir)?.into())),
             PlannedReply::BytesOf { file, at, len } => {

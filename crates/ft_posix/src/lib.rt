@@ -16,7 +16,7 @@ mod intent;
 pub mod laws;
 mod stamped;
 
-pub use call::{Access, Call, Mode, OpenFlags, Reply, Whence};
+pub use call::{Access, Call, FileInfo, Mode, OpenFlags, Reply, Whence};
 pub use intent::{CallError, Edit, Edits, Intent, PlannedReply};
 pub use stamped::StampedCall;
 

@@ -50,7 +50,7 @@ impl Model for Recent {
 }
 
 impl Recent {
-    /// A core on which nothing has happened since its base. Takes no memory.
+    /// Returns a core on which nothing has happened since its base. Takes no memory.
     pub fn of(core: Core) -> Recent
         requires { core.state ≡ at_base core.state.rule core.state.limits core.state.base }
         ensures core { result.core ≡ core }
@@ -64,7 +64,7 @@ impl Recent {
         }
     }
 
-    /// The core, as it is now; what has happened is forgotten.
+    /// Returns the core, as it is now, and forgets what has happened.
     pub fn into_core(self) -> Core
         ensures { result ≡ self.core }
     {
@@ -76,7 +76,7 @@ impl Recent {
         core
     }
 
-    /// The core, for what only looks at it.
+    /// Returns the core, for what only looks at it.
     pub fn core(&self) -> &Core
         ensures { result.now ≡ self.now.core }
     {

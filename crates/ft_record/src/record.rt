@@ -41,7 +41,7 @@ impl Model for Record {
 }
 
 impl Record {
-    /// Nothing has happened. Takes no memory.
+    /// Returns a record in which nothing has happened. Takes no memory.
     pub(crate) fn new(alloc: Global) -> Record
         ensures { result ≡ record nothing_recorded { room = result.room } }
     {
@@ -74,7 +74,7 @@ impl Record {
         Ok(())
     }
 
-    /// Tells of a begin or a call, in a new place; the other is kept for its end or its undo.
+    /// Records a begin or a call, in a new place; the other is kept for its end or its undo.
     pub(crate) fn add(&mut self, event: Event)
         requires { 2 ≤ self.old.room }
         ensures { self.new ≡ with_new self.old event }
@@ -114,7 +114,7 @@ impl Record {
         }
     }
 
-    /// Tells of the end of a transaction or of an undo, in a place that was kept.
+    /// Records the end of a transaction or an undo, in a place that was kept.
     pub(crate) fn tell(&mut self, event: Event)
         requires { 0 < self.old.spare }
         ensures { self.new ≡ with_told self.old event }

@@ -64,7 +64,8 @@ impl Recorded {
         Recorded::with_rule(alloc, Rule::Profile)
     }
 
-    /// A core over the empty tree that grants calls by this rule. Its limits are the default ones.
+    /// Returns a core over the empty tree that grants calls by this rule. Its limits are the
+    /// default ones.
     pub fn with_rule(alloc: Global, rule: Rule) -> Result<Recorded, Memory>
         ensures { IfOk result (λ core. core.state ≡ first_state rule default_limits) }
     {
@@ -86,7 +87,7 @@ impl Recorded {
         Ok(recorded)
     }
 
-    /// A core on which nothing has happened since its base, with a record from there on.
+    /// Returns a core on which nothing has happened since its base, with a record from there on.
     pub fn of(core: Core) -> Result<Recorded, Memory>
         requires { core.state ≡ at_base core.state.rule core.state.limits core.state.base }
         ensures { IfOk result (λ recorded. recorded.state ≡ core.state) }
@@ -96,7 +97,7 @@ impl Recorded {
         Ok(Recorded { recent, base })
     }
 
-    /// The core, as it is now; what has happened is forgotten.
+    /// Returns the core, as it is now, and forgets what has happened.
     pub fn into_core(self) -> Core
         ensures { result ≡ self }
     {
@@ -109,7 +110,7 @@ impl Recorded {
         self.core().alloc()
     }
 
-    /// By which rule calls are granted. It never changes.
+    /// Returns by which rule calls are granted. It never changes.
     pub fn rule(&self) -> Rule
         ensures { result ≡ self.now.state.rule }
     {
@@ -147,7 +148,7 @@ impl Recorded {
         self.core().parent(txn)
     }
 
-    /// The core, for what only looks at it.
+    /// Returns the core, for what only looks at it.
     pub fn core(&self) -> &Core
         ensures { result.now ≡ self.now }
     {
@@ -259,7 +260,7 @@ impl Recorded {
         self.recent.sweep()
     }
 
-    /// The tree.
+    /// Returns the tree.
     pub fn tree(&self) -> &Tree
         ensures stored { result.now ≡ self.now.cells }
         ensures headline { IsHeadline self.now.state result.now }

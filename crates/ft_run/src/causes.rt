@@ -48,7 +48,7 @@ impl Causes {
         }
     }
 
-    /// Why something could not be made at a place, of which the path has so many bytes.
+    /// Returns why something could not be made at a place, of which the path has so many bytes.
     pub fn of_write(&self, length: usize, error: io::Error) -> CopyFault {
         match error.kind() {
             ErrorKind::OutOfMemory => CopyFault::Memory,

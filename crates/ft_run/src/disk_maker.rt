@@ -2,19 +2,18 @@
 use crate::causes::Causes;
 use crate::giving::Giving;
 use crate::held::id_of;
-use crate::made::{BEGUN_FILE, Made, make_folder, sync_folder, sync_if};
+use crate::made::{
+    BEGUN_FILE, MOST_TRIES, Made, around, beside, make_file, make_folder, sync_folder, sync_if,
+};
 use ft_cells::{Attributes, Timestamp};
 use ft_copy::CopyFault;
 use ft_into::{Act, Maker, Thing};
 use ft_script::write_out;
 use std::collections::BTreeSet;
-use std::fs::{File, OpenOptions};
+use std::fs::File;
 use std::io::{ErrorKind, Write};
-use std::os::unix::fs::{OpenOptionsExt, symlink};
+use std::os::unix::fs::symlink;
 use std::{fs, io, str};
-
-/// How many names alongside a place are tried.
-const MOST_TRIES: u32 = 1_000;
 
 /// A directory on disk in which a tree is made. Files, and what is changed, are made under another
 /// name in the same directory, and get their own names when they are whole.
@@ -106,25 +105,15 @@ impl<'a> DiskMaker<'a> {
         Ok(())
     }
 
-    /// Returns the name alongside a place that has this number.
-    fn beside(&self, place: &str, number: u32) -> Result<String, CopyFault> {
-        Ok(format!(in self.rt.alloc(); "{}.save.part{number}", around(place))?)
-    }
-
     /// Makes a file alongside a place, by the first name that is free.
     fn open_beside(&self, place: &str) -> Result<(File, String), CopyFault> {
         for number in 0..MOST_TRIES {
-            let beside = self.beside(place, number)?;
+            let beside = beside(self.rt.alloc(), place, number)?;
             if beside.as_str() == place {
                 // (the tree has a file of this name)
                 continue;
             }
-            let opened = OpenOptions::new()
-                .write(true)
-                .create_new(true)
-                .mode(BEGUN_FILE)
-                .open(self.rt, beside.as_str());
-            match opened {
+            match make_file(self.rt, beside.as_str(), BEGUN_FILE) {
                 Ok(file) => return Ok((file, beside)),
                 Err(error) if error.kind() == ErrorKind::AlreadyExists => {}
                 Err(error) => return Err(self.trouble(beside.as_str(), error)),
@@ -136,7 +125,7 @@ impl<'a> DiskMaker<'a> {
     /// Makes a link alongside a place, by the first name that is free.
     fn link_beside(&self, to: &str, is_symbolic: bool, place: &str) -> Result<String, CopyFault> {
         for number in 0..MOST_TRIES {
-            let beside = self.beside(place, number)?;
+            let beside = beside(self.rt.alloc(), place, number)?;
             match make_link(self.rt, to, is_symbolic, beside.as_str()) {
                 Ok(()) => return Ok(beside),
                 Err(error) if error.kind() == ErrorKind::AlreadyExists => {}
@@ -306,14 +295,6 @@ impl Maker for DiskMaker<'_> {
         if let Some(open) = self.file.take() {
             let _ = fs::remove_file(self.rt, open.beside.as_str());
         }
-    }
-}
-
-/// Returns the directory of a place, with the slash at its end.
-fn around(place: &str) -> &str {
-    match place.rfind('/') {
-        Some(slash) => &place[..slash + 1],
-        None => "",
     }
 }
 

@@ -300,10 +300,14 @@ fn found(metadata: &Metadata) -> Found {
     }
 }
 
-/// Returns what something is that is neither a file, a directory nor a link.
-fn kind_of(metadata: &Metadata) -> &'static str {
+/// Returns what something is that is not a regular file.
+pub fn kind_of(metadata: &Metadata) -> &'static str {
     let kind = metadata.file_type();
-    if kind.is_fifo() {
+    if kind.is_dir() {
+        "a directory"
+    } else if kind.is_symlink() {
+        "a symbolic link"
+    } else if kind.is_fifo() {
         "a FIFO"
     } else if kind.is_socket() {
         "a socket"

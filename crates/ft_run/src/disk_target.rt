@@ -2,18 +2,15 @@
 use crate::causes::Causes;
 use crate::explained::say;
 use crate::giving::Giving;
-use crate::made::{BEGUN_FILE, Made, make_folder, sync_folder, sync_if};
+use crate::made::{BEGUN_FILE, MOST_TRIES, Made, make_file, make_folder, sync_folder, sync_if};
 use crate::removal::Removal;
 use ft_cells::{Attributes, Timestamp};
 use ft_copy::{CopyFault, Target};
 use ft_script::write_out;
-use std::fs::{File, OpenOptions};
+use std::fs::File;
 use std::io::{ErrorKind, Write};
-use std::os::unix::fs::{OpenOptionsExt, symlink};
+use std::os::unix::fs::symlink;
 use std::{fs, io, str};
-
-/// How many names alongside the directory are tried.
-const MOST_TRIES: u32 = 1_000;
 
 /// A directory that is to be made on disk. It is made under another name alongside its place, and
 /// gets its own when it is whole.
@@ -57,7 +54,7 @@ struct Begun {
 }
 
 impl<'a> DiskTarget<'a> {
-    /// Nothing is made yet.
+    /// Returns a target on which nothing is made yet.
     pub fn new(
         rt: &'a HostRuntime,
         dir: &'a str,
@@ -190,12 +187,9 @@ impl Target for DiskTarget<'_> {
 
     fn open(&mut self, path: &[u8], attributes: Attributes) -> Result<(), CopyFault> {
         let place = self.place(path)?;
-        let file = OpenOptions::new()
-            .write(true)
-            .create_new(true)
-            .mode(BEGUN_FILE)
-            .open(self.rt, place.as_str())
-            .map_err(|error| self.causes.of_write(place.len(), error))?;
+        let file = make_file(self.rt, place.as_str(), BEGUN_FILE).map_err(|error| self
+            .causes
+            .of_write(place.len(), error))?;
         self.file = Some(OpenFile { file, attributes });
         Ok(())
     }

@@ -33,7 +33,7 @@ pub fn run_fault_line(fault: RunFault) -> &'static str
     }
 }
 
-/// The name of what stopped a copy.
+/// Returns the name of what stopped a copy.
 pub(crate) fn trouble_name(trouble: CopyFault) -> &'static str
     ensures { result.now ≡ trouble_name trouble }
 {

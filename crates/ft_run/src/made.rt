@@ -4,10 +4,14 @@ use crate::giving::Giving;
 use crate::held::id_of;
 use ft_cells::Attributes;
 use ft_copy::{CopyFault, FileId};
-use std::fs::{DirBuilder, File, Permissions};
+use std::alloc::{AllocError, Global};
+use std::fs::{DirBuilder, File, OpenOptions, Permissions};
 use std::io::ErrorKind;
-use std::os::unix::fs::{DirBuilderExt, MetadataExt, PermissionsExt};
+use std::os::unix::fs::{DirBuilderExt, MetadataExt, OpenOptionsExt, PermissionsExt};
 use std::{fs, io};
+
+/// How many names alongside a place are tried.
+pub const MOST_TRIES: u32 = 1_000;
 
 /// The mode of a directory until it is whole. Only its owner gets at it, and can fill it.
 const BEGUN_FOLDER: u32 = 0o700;
@@ -71,6 +75,29 @@ pub fn make_folder(rt: &HostRuntime, place: &str) -> io::Result<FileId> {
         fs::set_permissions(rt, place, Permissions::from_mode(BEGUN_FOLDER))?;
     }
     Ok(id_of(&metadata))
+}
+
+/// Makes a file at a place where nothing is, and opens it for writing. The umask removes bits of
+/// its mode.
+pub fn make_file(rt: &HostRuntime, place: &str, mode: u32) -> io::Result<File> {
+    OpenOptions::new()
+        .write(true)
+        .create_new(true)
+        .mode(mode)
+        .open(rt, place)
+}
+
+/// Returns the name alongside a place that has this number. A file has it until it is whole.
+pub fn beside(alloc: Global, place: &str, number: u32) -> Result<String, AllocError> {
+    format!(in alloc; "{}.save.part{number}", around(place))
+}
+
+/// Returns the directory of a place, with the slash at its end.
+pub fn around(place: &str) -> &str {
+    match place.rfind('/') {
+        Some(slash) => &place[..slash + 1],
+        None => "",
+    }
 }
 
 /// Waits until a file or directory is on the disk, if that is requested.

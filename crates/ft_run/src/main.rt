@@ -24,6 +24,7 @@ mod made;
 #[cfg(test)]
 mod of_status;
 mod removal;
+mod script_files;
 mod skipping;
 mod status;
 mod strictly;
@@ -40,6 +41,7 @@ use crate::explained::{Explained, say};
 use crate::faults::fault_line;
 use crate::giving::is_superuser;
 use crate::into::{Into, into_status};
+use crate::script_files::ScriptFiles;
 use crate::skipping::SkippingSource;
 use crate::status::{
     dot_status, jobs_status, load_status, play_status, report_fault, report_setup_fault,
@@ -52,11 +54,14 @@ use ft_copy::{CopyLimits, Source};
 use ft_core::{Core, Limits, Rule};
 use ft_into::Wishes;
 use ft_jobs::{LONGEST_PLAN, Pace};
-use ft_load::needs_of;
+use ft_load::{Form, Spelling, needs_of};
 use ft_needs::{limits_for, raised_for};
+use ft_path::FilePath;
+use ft_plan_names::numbered_plan;
 use ft_record::Recorded;
 use ft_screen::ShownTarget;
 use ft_script::{PlayFault, SetupFault, core_with_setup, write_out};
+use ft_transfer::NoFiles;
 use std::fs::{File, Files};
 use std::io::{ErrorKind, IsTerminal, Read, Stderr, Write};
 use std::process::ExitCode;
@@ -80,6 +85,7 @@ fn main(rt: HostRuntime) -> ExitCode {
         Choice::Dot => dot_status(alloc, &mut rt.stdin(), &mut rt.stdout(), &mut rt.stderr()),
         Choice::Load {
             dir,
+            at,
             skip,
             check,
             set_id,
@@ -89,6 +95,7 @@ fn main(rt: HostRuntime) -> ExitCode {
             &rt,
             dir.as_str(),
             &Loading {
+                spelling: spelling_for(&at),
                 skip,
                 check,
                 set_id,
@@ -152,13 +159,14 @@ fn run_script(
         Ok(core) => core,
         Err(status) => return status,
     };
+    let files = ScriptFiles::new(rt, core.limits().file_size);
     let mut script = front.as_slice().chain(input);
     let mut replies = rt.stdout();
     let mut errors = Explained::of_script(rt);
     if strict {
-        play_strictly_status(alloc, core, &mut script, &mut replies, &mut errors)
+        play_strictly_status(alloc, core, &mut script, &mut replies, &files, &mut errors)
     } else {
-        play_status(alloc, core, &mut script, &mut replies, &mut errors)
+        play_status(alloc, core, &mut script, &mut replies, &files, &mut errors)
     }
 }
 
@@ -171,8 +179,8 @@ fn fault_of(error: &io::Error) -> PlayFault {
     }
 }
 
-/// Returns the core and the plan of a run of jobs. If one of them could not be had, that was
-/// reported, and the error is the status to end with.
+/// Returns the core and the plan of a run of jobs, with numbers in place of the names of steps. If
+/// one of them could not be had, that was reported, and the error is the status to end with.
 fn begun_jobs(
     rt: &HostRuntime,
     file: &str,
@@ -185,9 +193,13 @@ fn begun_jobs(
     let Ok(core) = Recorded::of(core_for(rt, rule, asked, Limits::default(), after)?) else {
         return Err(report_fault(&mut rt.stderr(), fault_line(PlayFault::Memory)));
     };
-    match read_file(rt, file, LONGEST_PLAN as u64 + 1) {
+    let text = match read_file(rt, file, LONGEST_PLAN as u64 + 1) {
+        Ok(text) => text,
+        Err(error) => return Err(unread(rt, "the plan", file, &error)),
+    };
+    match numbered_plan(rt.alloc(), text.as_slice()) {
         Ok(plan) => Ok((core, plan)),
-        Err(error) => Err(unread(rt, "the plan", file, &error)),
+        Err(_) => Err(report_fault(&mut rt.stderr(), fault_line(PlayFault::Memory))),
     }
 }
 
@@ -225,17 +237,27 @@ fn misused(rt: &HostRuntime, text: String) -> u8 {
 
 /// How a directory is to be loaded.
 #[derive(Clone, Copy)]
-struct Loading {
+struct Loading<'a> {
+    spelling: Spelling<'a>,
     skip: bool,
     check: bool,
     set_id: bool,
     quiet: bool,
 }
 
+/// Returns how a script is spelled: with names if it is for this directory of the tree, and with
+/// numbers if it is for none.
+fn spelling_for(at: &Option<FilePath>) -> Spelling<'_> {
+    match at {
+        Some(path) => Spelling::with_names(path.as_bytes()),
+        None => Spelling::with_numbers(),
+    }
+}
+
 /// Writes a script of a directory to standard output, or lists there what of it can't be loaded.
 /// The script needs no more than is requested. If nothing is requested, it needs no more than a
 /// core that is played with flags can have. Returns 3 if something was left out.
-fn load_dir(rt: &HostRuntime, dir: &str, loading: &Loading, asked: AskedLimits) -> u8 {
+fn load_dir(rt: &HostRuntime, dir: &str, loading: &Loading<'_>, asked: AskedLimits) -> u8 {
     let causes = Causes::new();
     let most = asked.over(Limits {
         links: Limits::default().links,
@@ -250,7 +272,7 @@ fn load_disk<'a>(
     rt: &'a HostRuntime,
     dir: &'a str,
     causes: &'a Causes,
-    loading: &Loading,
+    loading: &Loading<'_>,
     most: Limits,
 ) -> u8 {
     let skips = loading.skip || loading.check;
@@ -258,7 +280,7 @@ fn load_disk<'a>(
     if skips {
         return load_rest(rt, &disk, causes, loading, most);
     }
-    let needs = needs_of(rt.alloc(), most, loading.set_id, &disk);
+    let needs = needs_of(rt.alloc(), most, loading.set_id, loading.spelling, &disk);
     disk.begin();
     load_from(rt, &disk, causes, loading, needs)
 }
@@ -269,7 +291,7 @@ fn load_rest<'a>(
     rt: &'a HostRuntime,
     disk: &DiskSource<'a>,
     causes: &'a Causes,
-    loading: &Loading,
+    loading: &Loading<'_>,
     most: Limits,
 ) -> u8 {
     let allowed = CopyLimits {
@@ -277,8 +299,15 @@ fn load_rest<'a>(
         links: most.links,
         set_id: loading.set_id,
     };
-    let skipping = SkippingSource::new(rt, disk, causes, allowed, loading.check);
-    let needs = needs_of(rt.alloc(), most, loading.set_id, &skipping);
+    let top = loading.spelling.top();
+    let skipping = SkippingSource::new(rt, disk, causes, allowed, top, loading.check);
+    let needs = needs_of(
+        rt.alloc(),
+        most,
+        loading.set_id,
+        loading.spelling,
+        &skipping,
+    );
     skipping.begin();
     let status = load_from(rt, &skipping, causes, loading, needs);
     let Ok(has_left_out) = skipping.tell() else {
@@ -296,7 +325,7 @@ fn load_from<S: Source>(
     rt: &HostRuntime,
     source: &S,
     causes: &Causes,
-    loading: &Loading,
+    loading: &Loading<'_>,
     needs: Result<Limits, Memory>,
 ) -> u8 {
     let Ok(needs) = needs else {
@@ -319,18 +348,22 @@ fn load_from<S: Source>(
 fn load_to<S: Source, W: Write + Drop>(
     rt: &HostRuntime,
     source: &S,
-    loading: &Loading,
+    loading: &Loading<'_>,
     needs: Limits,
     script: W,
 ) -> u8 {
     let alloc = rt.alloc();
+    let form = Form {
+        limits: needs,
+        spelling: loading.spelling,
+    };
     let set_id = loading.set_id;
     let screen = screen(rt, loading.quiet || rt.stdout().is_terminal());
     let mut errors = Explained::of_directory(rt);
     let (_writer, status) = load_status(
         rt,
         alloc,
-        needs,
+        form,
         set_id,
         source,
         screen,
@@ -388,6 +421,7 @@ fn save_into<'a>(
     causes: &'a Causes,
 ) -> u8 {
     let disk = DiskSource::new(rt, dir, causes, true);
+    disk.begin();
     let maker = DiskMaker::new(rt, dir, causes, !how.no_owners, how.sync);
     let into = Into {
         wishes: Wishes {
@@ -430,11 +464,12 @@ fn core_for(
     let alloc = rt.alloc();
     let seed = random_number(rt);
     let begun = match &after {
-        None => core_with_setup(alloc, rule, asked.over(needed), seed, None),
+        None => core_with_setup(alloc, rule, asked.over(needed), seed, None, &NoFiles),
         Some(file) => match read_file(rt, file.as_str(), u64::MAX) {
             Ok(script) => {
                 let limits = asked.over(raised_for(needed, script.as_slice()));
-                core_with_setup(alloc, rule, limits, seed, Some(script.as_slice()))
+                let files = ScriptFiles::new(rt, limits.file_size);
+                core_with_setup(alloc, rule, limits, seed, Some(script.as_slice()), &files)
             }
             Err(error) => return Err(unread(rt, "the script", file.as_str(), &error)),
         },

@@ -4,6 +4,7 @@ use ft_core::{Limits, Rule};
 use ft_jobs::Pace;
 use ft_record::Recorded;
 use ft_script::core_with_setup;
+use ft_transfer::NoFiles;
 use std::alloc::Global;
 use std::io;
 use std::io::{ErrorKind, Read, Write};
@@ -68,10 +69,11 @@ fn ends_with<R: Read>(
     held: &str,
 ) -> bool {
     let mut replies = Narrow::new(alloc, 100);
-    let Ok(core) = core_with_setup(alloc, Rule::Profile, Limits::default(), 1, None) else {
+    let Ok(core) = core_with_setup(alloc, Rule::Profile, Limits::default(), 1, None, &NoFiles)
+    else {
         return false;
     };
-    let status = play_status(alloc, core, reader, &mut replies, errors);
+    let status = play_status(alloc, core, reader, &mut replies, &NoFiles, errors);
     status == end.0
         && replies.held.as_slice() == end.1.as_bytes()
         && errors.held.as_slice() == held.as_bytes()

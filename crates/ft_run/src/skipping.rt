@@ -30,6 +30,8 @@ pub struct SkippingSource<'a, 'b> {
     disk: &'b DiskSource<'a>,
     causes: &'a Causes,
     limits: CopyLimits,
+    // the most bytes that a path of the directory may have
+    longest: usize,
     // whether what is left out is listed on standard output, and not reported on standard error
     is_listed: bool,
     // whether it is reported and counted
@@ -41,12 +43,14 @@ pub struct SkippingSource<'a, 'b> {
 }
 
 impl<'a, 'b> SkippingSource<'a, 'b> {
-    /// Nothing was left out yet, and nothing is reported until `begin`.
+    /// Nothing was left out yet, and nothing is reported until `begin`. In a script each path comes
+    /// after this one.
     pub fn new(
         rt: &'a HostRuntime,
         disk: &'b DiskSource<'a>,
         causes: &'a Causes,
         limits: CopyLimits,
+        top: &[u8],
         is_listed: bool,
     ) -> SkippingSource<'a, 'b> {
         SkippingSource {
@@ -54,6 +58,7 @@ impl<'a, 'b> SkippingSource<'a, 'b> {
             disk,
             causes,
             limits,
+            longest: LONGEST_PATH.saturating_sub(top.len()),
             is_listed,
             is_told: Cell::new(false),
             why: Cell::new(CopyFault::Special),
@@ -68,7 +73,7 @@ impl<'a, 'b> SkippingSource<'a, 'b> {
         }
     }
 
-    /// From now on what is left out is reported and counted.
+    /// Reports and counts from now on what is left out.
     pub fn begin(&self) {
         self.disk.begin();
         self.is_told.set(true);
@@ -157,7 +162,7 @@ impl<'a, 'b> SkippingSource<'a, 'b> {
     /// Leaves out a name of a directory if it makes the path too long, and returns whether it does.
     fn is_too_long(&self, path: &[u8], listed: &FolderEntry) -> Result<bool, CopyFault> {
         let name = listed.name.as_bytes();
-        if path.len().saturating_add(name.len()) < LONGEST_PATH {
+        if path.len().saturating_add(name.len()) < self.longest {
             return Ok(false);
         }
         let mut child = Vec::from_slice(self.rt.alloc(), path)?;

@@ -12,15 +12,16 @@ ghost use Rattle.ft_run.specs.Statuses.{PlaysToEnd, FailsToPlay, FailsToDraw, Fa
 
 use crate::faults::{fault_line, run_fault_line, trouble_name};
 use ft_copy::{CopyLimits, CopyStop, Source, Target};
-use ft_core::{Core, Limits};
+use ft_core::Core;
 use ft_dot::draw;
 use ft_job_text::{RunFault, run_plan};
 use ft_jobs::Pace;
-use ft_load::load;
+use ft_load::{Form, load};
 use ft_record::Recorded;
 use ft_save::{SaveFault, save};
 use ft_screen::ShownSource;
 use ft_script::{PlayFault, SetupFault, play, write_out};
+use ft_transfer::DiskFiles;
 use ft_words::CodedArgument;
 use std::alloc::Global;
 use std::io::{Read, Write};
@@ -30,22 +31,24 @@ use std::time::Clock;
 
 /// Runs a script on a core, and returns the status to end with: 0, or 1 after a fault, which a line
 /// on `errors` reports. If that line can't be written, the status is the same.
-pub fn play_status<R: Read, W: Write, E: Write>(
+pub fn play_status<R: Read, W: Write, F: DiskFiles, E: Write>(
     alloc: Global,
     core: Core,
     reader: &mut R,
     writer: &mut W,
+    files: &F,
     errors: &mut E,
 ) -> u8
     ensures status { (result ≡ 0) ⊎ (result ≡ 1) }
     ensures quiet { result ≡ 0 → Keeps (E.contents errors.old) (E.contents errors.new) }
-    ensures ok { result ≡ 0 → PlaysToEnd AnswersFreely R.remaining W.contents
+    ensures ok { result ≡ 0 → PlaysToEnd (AnswersFreely (F.tells files.now)) R.remaining W.contents
         reader.old reader.new writer.old writer.new core.state }
-    ensures fault { result ≡ 1 → FailsToPlay AnswersFreely R.remaining W.contents E.contents
+    ensures fault { result ≡ 1 → FailsToPlay (AnswersFreely (F.tells files.now))
+        R.remaining W.contents E.contents
         reader.old reader.new writer.old writer.new errors.old errors.new core.state }
 {
     let mut core = core;
-    match play(alloc, reader, writer, &mut core) {
+    match play(alloc, reader, writer, files, &mut core) {
         Ok(()) => 0,
         Err(fault) => report_fault(errors, fault_line(fault)),
     }
@@ -131,14 +134,14 @@ pub fn report_setup_fault<E: Write>(alloc: Global, errors: &mut E, fault: SetupF
     }
 }
 
-/// Writes a script of what a source holds, for a core with these limits, with the bits S_ISUID and
-/// S_ISGID of modes or without. Returns the writer and the status to end with: 0, or 1 after a
+/// Writes a script of what a source holds, in this form, with the bits S_ISUID and S_ISGID of modes
+/// or without. Returns the writer and the status to end with: 0, or 1 after a
 /// fault, which a line on `errors` reports, with the path at which it came. How far it has come is
 /// shown on a screen meanwhile, if there is one.
 pub fn load_status<R: Clock, S: Source, V: Write + Drop, W: Write, E: Write>(
     rt: &R,
     alloc: Global,
-    limits: Limits,
+    form: Form<'_>,
     set_id: bool,
     source: &S,
     screen: Option<V>,
@@ -148,12 +151,12 @@ pub fn load_status<R: Clock, S: Source, V: Write + Drop, W: Write, E: Write>(
     ensures status { (result.1 ≡ 0) ⊎ (result.1 ≡ 1) }
     ensures quiet { result.1 ≡ 0 → Keeps (E.contents errors.old) (E.contents errors.new) }
     ensures ok { result.1 ≡ 0
-        → Loads limits set_id (S.tells source.now) (W.contents writer) (W.contents result.0) }
-    ensures fault { result.1 ≡ 1 → FailsToLoad limits set_id (S.tells source.now)
+        → Loads form.entry set_id (S.tells source.now) (W.contents writer) (W.contents result.0) }
+    ensures fault { result.1 ≡ 1 → FailsToLoad form.entry set_id (S.tells source.now)
         W.contents E.contents writer result.0 errors.old errors.new }
 {
     let shown = ShownSource::new(rt, alloc, source, screen);
-    let (writer, loaded) = load(alloc, limits, set_id, &shown, writer);
+    let (writer, loaded) = load(alloc, form, set_id, &shown, writer);
     shown.done();
     let status = match loaded {
         Ok(()) => 0,

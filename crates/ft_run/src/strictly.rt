@@ -9,6 +9,7 @@ use crate::faults::fault_line;
 use crate::status::report_fault;
 use ft_core::Core;
 use ft_script::{FailedLine, PlayFault, StrictFault, play_strictly, write_out};
+use ft_transfer::DiskFiles;
 use std::alloc::{AllocError, Global};
 use std::io::{Read, Write};
 
@@ -18,24 +19,27 @@ const LONGEST_SHOWN: usize = 200;
 /// Runs a strict script on a core, and returns the status to end with: 0; 1 after a fault of
 /// reading, writing or memory; or 3 after the first line that did not do what it requests. A line
 /// on `errors` reports either. If that can't be written, the status is the same.
-pub fn play_strictly_status<R: Read, W: Write, E: Write>(
+pub fn play_strictly_status<R: Read, W: Write, F: DiskFiles, E: Write>(
     alloc: Global,
     core: Core,
     reader: &mut R,
     writer: &mut W,
+    files: &F,
     errors: &mut E,
 ) -> u8
     ensures status { (result ≡ 0) ⊎ (result ≡ 1) ⊎ (result ≡ 3) }
     ensures quiet { result ≡ 0 → Keeps (E.contents errors.old) (E.contents errors.new) }
-    ensures ok { result ≡ 0 → PlaysToEnd AnswersStrictly R.remaining W.contents
-        reader.old reader.new writer.old writer.new core.state }
-    ensures fault { result ≡ 1 → FailsToPlay AnswersStrictly R.remaining W.contents E.contents
+    ensures ok { result ≡ 0 → PlaysToEnd (AnswersStrictly (F.tells files.now))
+        R.remaining W.contents reader.old reader.new writer.old writer.new core.state }
+    ensures fault { result ≡ 1 → FailsToPlay (AnswersStrictly (F.tells files.now))
+        R.remaining W.contents E.contents
         reader.old reader.new writer.old writer.new errors.old errors.new core.state }
-    ensures failed { result ≡ 3 → FailsAtLine R.remaining W.contents E.contents
+    ensures failed { result ≡ 3 → FailsAtLine (F.tells files.now)
+        R.remaining W.contents E.contents
         reader.old reader.new writer.old writer.new errors.old errors.new core.state }
 {
     let mut core = core;
-    match play_strictly(alloc, reader, writer, &mut core) {
+    match play_strictly(alloc, reader, writer, files, &mut core) {
         Ok(()) => 0,
         Err(StrictFault::Play(fault)) => report_fault(errors, fault_line(fault)),
         Err(StrictFault::Line(line)) => report_line(alloc, errors, &line),

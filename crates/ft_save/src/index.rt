@@ -68,7 +68,7 @@ impl Index {
         }
     }
 
-    /// The attributes of a directory or file of this kind.
+    /// Returns the attributes of a directory or file of this kind.
     pub(crate) fn attributes_of(&self, kind: Kind, node: u64) -> Attributes
         ensures { (rows : List Row) → Indexes self.now rows
             → result ≡ attributes_from kind (attributes_in rows node) }
@@ -80,7 +80,7 @@ impl Index {
     }
 }
 
-/// The index of rows.
+/// Returns an index of rows.
 pub(crate) fn index_of(alloc: Global, rows: Vec<Row>) -> Result<Index, Memory>
     ensures { IfOk result (λ index. Indexes index rows.items) }
 {

@@ -1,27 +1,27 @@
 -- How replies are gathered.
-use Rattle.std.proofs.Common.{◌≡◌, ◌⊎◌, ℕ, suc, ◌+◌, ◌*◌, ◌<◌, Bool, true, List, [], ◌∷◌, ◌++◌, length, inl, inr, refl, sym, subst, length-append, arith}
-use Rattle.ft_core.specs.States.{State}
+use Rattle.std.proofs.Common.{◌≡◌, ◌⊎◌, ℕ, ◌+◌, ◌*◌, ◌<◌, Bool, List, [], ◌∷◌, ◌++◌, length, inl, inr, refl, sym, subst, length-append, arith}
+use Rattle.ft_names.specs.Names.{Moment}
 use Rattle.ft_script.specs.declared.gathering.TheConstants.{MOST_GATHERED}
 use Rattle.ft_script.specs.declared.playing.PlayFault.{PlayFault}
 use Rattle.ft_script.specs.declared.playing.PlayFault.TheVariants.{Memory, Read, Write, TooLong, Turns}
 use Rattle.ft_script.specs.Cutting.{Cuts}
 use Rattle.ft_script.specs.Reading.{GivesLine, StopsCutting}
-use Rattle.ft_script.specs.Gathering.{Gathers, GathersLines, StopsAnswering, StopsGathering}
+use Rattle.ft_script.specs.Gathering.{Gathers, GathersLines, StopsAnswering}
 use Rattle.ft_script.specs.Runs.{Answers, IsTextOfRun}
 use Rattle.ft_script.proofs.Cutting.{cuts_line, cuts_none}
 use Rattle.ft_script.proofs.Running.{run_more, run_one}
 
 -- All lines that were carried out, and what was gathered for them.
-pub record Gathered (answers : Answers) (bytes rest : List ℕ) (count count_after : ℕ) (text : List ℕ) (old new : State) : Type 0 where
+pub record Gathered (answers : Answers) (bytes rest : List ℕ) (count count_after : ℕ) (text : List ℕ) (old new : Moment) : Type 0 where
   pub lines : List (List ℕ)
   pub cuts : Cuts bytes lines rest
   pub run : IsTextOfRun answers old lines text new
   pub counted : count_after ≡ count + length lines
 
-pub gathers_none : (answers : Answers) (bytes : List ℕ) (count : ℕ) (text : List ℕ) (old : State) → text ≡ [] → Gathers answers bytes bytes count count text old old
+pub gathers_none : (answers : Answers) (bytes : List ℕ) (count : ℕ) (text : List ℕ) (old : Moment) → text ≡ [] → Gathers answers bytes bytes count count text old old
 gathers_none answers bytes count text old none = inl (refl, refl, none, refl)
 
-pub gathered : (answers : Answers) (bytes rest : List ℕ) (count count_after : ℕ) (text : List ℕ) (old new : State) → Gathers answers bytes rest count count_after text old new → Gathered answers bytes rest count count_after text old new
+pub gathered : (answers : Answers) (bytes rest : List ℕ) (count count_after : ℕ) (text : List ℕ) (old new : Moment) → Gathers answers bytes rest count count_after text old new → Gathered answers bytes rest count count_after text old new
 gathered answers bytes rest count count_after text old new (inl h) = record {
   lines = [];
   cuts = subst (Cuts bytes []) (sym h.0) (cuts_none bytes);
@@ -36,7 +36,7 @@ gathered answers bytes rest count count_after text old new (inr (line, reply, h)
 }
 
 -- one more line is carried out
-pub gathers_line : (answers : Answers) (on : Bool) (bytes rest behind : List ℕ) (count count_now count_after : ℕ) (line reply text text_after : List ℕ) (old now new : State)
+pub gathers_line : (answers : Answers) (on : Bool) (bytes rest behind : List ℕ) (count count_now count_after : ℕ) (line reply text text_after : List ℕ) (old now new : Moment)
     → Gathers answers bytes rest count count_now text old now → length text < MOST_GATHERED → GivesLine rest behind line → count_after ≡ count_now + 1 → answers on now line reply new → text_after ≡ text ++ reply
     → GathersLines answers on bytes behind count count_after line reply text_after old new
 gathers_line answers on bytes rest behind count count_now count_after line reply text text_after old now new h few given one_more answered whole =
@@ -56,7 +56,7 @@ gathers_line answers on bytes rest behind count count_now count_after line reply
     }
 
 -- the next line can't be cut
-pub stops_cut : (answers : Answers) (fault : PlayFault) (bytes : List ℕ) (old : State) → (fault ≡ TooLong) ⊎ (fault ≡ Memory) → StopsCutting fault bytes → StopsAnswering answers fault bytes old old
+pub stops_cut : (answers : Answers) (fault : PlayFault) (bytes : List ℕ) (old : Moment) → (fault ≡ TooLong) ⊎ (fault ≡ Memory) → StopsCutting fault bytes → StopsAnswering answers fault bytes old old
 stops_cut answers Memory bytes old cause h = inl refl
 stops_cut answers TooLong bytes old cause h = (h, refl)
 stops_cut answers Read bytes old (inl is) h = cc

@@ -3,7 +3,7 @@ use Rattle.std.proofs.Common.{◌≡◌, ℕ, List, [], ◌∷◌, ◌++◌, len
 use Rattle.std.proofs.lemmas.Bool.{false≢true}
 use Rattle.std.specs.Prelude.{◌==◌}
 use Rattle.std.specs.Io.KnownBytes.{Appends, Consumes, Keeps}
-use Rattle.ft_core.specs.States.{State}
+use Rattle.ft_names.specs.Names.{Moment}
 use Rattle.ft_script.specs.Runs.{Answers, IsTextOfRun, Plays, WritesPart}
 
 -- ---- what a writer holds
@@ -63,20 +63,20 @@ keeps_trans (Some x) (Some y) (Some z) h k = k ∙ h
 -- ---- the text of a run
 
 module _ (answers : Answers) where
-  pub run_one : (old new : State) (bytes text : List ℕ) → answers true old bytes text new → IsTextOfRun answers old (bytes ∷ []) text new
+  pub run_one : (old new : Moment) (bytes text : List ℕ) → answers true old bytes text new → IsTextOfRun answers old (bytes ∷ []) text new
   run_one old new bytes text h = (new, text, [], h, (refl, refl), sym (append-nil text))
 
-  pub run_more : (old mid new : State) (lines others : List (List ℕ)) (text more : List ℕ) → IsTextOfRun answers old lines text mid → IsTextOfRun answers mid others more new → IsTextOfRun answers old (lines ++ others) (text ++ more) new
+  pub run_more : (old mid new : Moment) (lines others : List (List ℕ)) (text more : List ℕ) → IsTextOfRun answers old lines text mid → IsTextOfRun answers mid others more new → IsTextOfRun answers old (lines ++ others) (text ++ more) new
   run_more old mid new [] others text more h k =
       subst (λ t. IsTextOfRun answers old others (t ++ more) new) (sym h.0) (subst (λ s. IsTextOfRun answers s others more new) h.1 k)
   run_more old mid new (l ∷ lines) others text more h k =
       (h.0, h.1, h.2 ++ more, h.3, run_more h.0 mid new lines others h.2 more h.4 k, ap (λ t. t ++ more) h.5 ∙ append_assoc h.1 h.2 more)
 
-  pub plays_none : (a b : Option (List ℕ)) (old : State) → Keeps a b → Plays answers [] a b old old
+  pub plays_none : (a b : Option (List ℕ)) (old : Moment) → Keeps a b → Plays answers [] a b old old
   plays_none a b old h = record { text = []; run = (refl, refl); wrote = appends_none a b h }
 
   -- more lines are answered, and the run goes on
-  pub plays_more : (lines more : List (List ℕ)) (text : List ℕ) (a b c : Option (List ℕ)) (old mid new : State) → Plays answers lines a b old mid → IsTextOfRun answers mid more text new → Appends b c text → Plays answers (lines ++ more) a c old new
+  pub plays_more : (lines more : List (List ℕ)) (text : List ℕ) (a b c : Option (List ℕ)) (old mid new : Moment) → Plays answers lines a b old mid → IsTextOfRun answers mid more text new → Appends b c text → Plays answers (lines ++ more) a c old new
   plays_more lines more text a b c old mid new h run wrote = record {
     text = h.text ++ text;
     run = run_more old mid new lines more h.text text h.run run;
@@ -84,7 +84,7 @@ module _ (answers : Answers) where
   }
 
   -- the same of one line
-  pub plays_one : (lines : List (List ℕ)) (bytes text : List ℕ) (a b c : Option (List ℕ)) (old mid new : State) → Plays answers lines a b old mid → answers true mid bytes text new → Appends b c text → Plays answers (lines ++ bytes ∷ []) a c old new
+  pub plays_one : (lines : List (List ℕ)) (bytes text : List ℕ) (a b c : Option (List ℕ)) (old mid new : Moment) → Plays answers lines a b old mid → answers true mid bytes text new → Appends b c text → Plays answers (lines ++ bytes ∷ []) a c old new
   plays_one lines bytes text a b c old mid new h answered wrote = plays_more lines (bytes ∷ []) text a b c old mid new h (run_one mid new bytes text answered) wrote
 
 -- some bytes are left, and the writer takes none of them

@@ -7,6 +7,7 @@ use Rattle.ft_history.specs.History.{Fate, is_live}
 use Rattle.ft_core.specs.Living.{NoneIsLive}
 use Rattle.ft_core.specs.Limits.{HistoryLimits}
 use Rattle.ft_core.specs.States.{Base, State, at_base, base_now}
+use Rattle.ft_transfer.specs.Disk.{FileTold}
 use Rattle.ft_script.specs.Setup.{IsPlayedFirst, StopsBegin, no_core}
 use Rattle.ft_script.specs.declared.setup_fault.SetupFault.{SetupFault}
 use Rattle.ft_core.specs.declared.limits.Limits.{Limits}
@@ -33,10 +34,10 @@ pub none_is_live_at : (s : State) (rule : Rule) (limits : HistoryLimits) (base :
 none_is_live_at s rule limits base is = subst (λ (t : State). NoneIsLive t) (sym is) (none_is_live rule limits base)
 
 -- none is behind a script that was played first
-pub none_after : (old : State) (lines : List (List ℕ)) (new : State) → IsPlayedFirst old lines new → NoneIsLive new
-none_after old lines new h = none_is_live_at new h.0.rule h.0.limits (base_now h.0) h.3
+pub none_after : (tells : FileTold → Type 0) (old : State) (lines : List (List ℕ)) (new : State) → IsPlayedFirst tells old lines new → NoneIsLive new
+none_after tells old lines new h = let played : State = h.0.0 in none_is_live_at new played.rule played.limits (base_now played) h.3
 
 -- where there is no new core, there is none for a script either
-pub stops_before : (fault : SetupFault) (rule : Rule) (limits : Limits) (script : Option (List ℕ)) → fault ≡ no_core limits → StopsBegin fault rule limits script
-stops_before fault rule limits None h = h
-stops_before fault rule limits (Some script) h = inl h
+pub stops_before : (tells : FileTold → Type 0) (fault : SetupFault) (rule : Rule) (limits : Limits) (script : Option (List ℕ)) → fault ≡ no_core limits → StopsBegin tells fault rule limits script
+stops_before tells fault rule limits None h = h
+stops_before tells fault rule limits (Some script) h = inl h

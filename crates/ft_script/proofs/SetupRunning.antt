@@ -1,5 +1,5 @@
 -- Lines that are played one after another.
-use Rattle.std.proofs.Common.{◌≡◌, ◌≤◌, ℕ, suc, Bool, true, false, if◌then◌else◌, List, [], ◌∷◌, ◌++◌, length, Option, None, Some, MatchOption, refl, subst, arith}
+use Rattle.std.proofs.Common.{◌≡◌, ◌≤◌, ℕ, suc, Bool, true, false, if◌then◌else◌, List, [], ◌∷◌, ◌++◌, length, None, MatchOption, refl, subst, arith}
 use Rattle.std.specs.Prelude.{◌==◌}
 use Rattle.std.specs.List.{onto_first}
 use Rattle.ft_words.specs.Spelling.{lines_of}
@@ -8,12 +8,13 @@ use Rattle.ft_core.specs.declared.fault.Fault.TheVariants.{Memory as MemoryFault
 use Rattle.ft_core.specs.declared.request.Request.TheVariants.{Checkpoint}
 use Rattle.ft_core.specs.States.{State, after_checkpoint, has_live}
 use Rattle.ft_core.specs.Steps.{IsStep, MayWantMemory, exact_rule, fault_if}
-use Rattle.ft_line.specs.Requests.{parse_line}
-use Rattle.ft_script.specs.Setup.{GoesWell, PlaysWell}
+use Rattle.ft_transfer.specs.Disk.{FileTold}
+use Rattle.ft_names.specs.Names.{Moment}
+use Rattle.ft_script.specs.Setup.{LineGoesWell, PlaysWell}
 
-pub plays_more : (old middle new : State) (some : List (List ℕ)) (line : List ℕ) → PlaysWell old some middle → GoesWell middle (parse_line line) new → PlaysWell old (some ++ line ∷ []) new
-plays_more old middle new [] line h k = (new, subst (λ s. GoesWell s (parse_line line) new) h k, refl)
-plays_more old middle new (first ∷ some) line h k = (h.0, h.1, plays_more h.0 middle new some line h.2 k)
+pub plays_more : (tells : FileTold → Type 0) (old middle new : Moment) (some : List (List ℕ)) (line : List ℕ) → PlaysWell tells old some middle → LineGoesWell tells middle line new → PlaysWell tells old (some ++ line ∷ []) new
+plays_more tells old middle new [] line h k = (new, subst (λ (m : Moment). LineGoesWell tells m line new) h k, refl)
+plays_more tells old middle new (first ∷ some) line h k = (h.0, h.1, plays_more tells h.0 middle new some line h.2 k)
 
 -- a checkpoint that is answered finds no transaction live, and is a new beginning
 pub cleared : (old new : State) → IsStep exact_rule old Checkpoint Cleared new → (has_live old ≡ false) × (new ≡ after_checkpoint old)

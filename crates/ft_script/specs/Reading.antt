@@ -1,5 +1,5 @@
 -- How a script is cut into lines while it is read. `left` is what the reader has left.
-use Rattle.std.specs.Prelude.{◌≡◌, ◌⊎◌, ◌+◌, ◌*◌, ◌-◌, ◌<◌, ◌≤◌, ℕ, Bool, if◌then◌else◌, List, [], ◌∷◌, ◌++◌, length, take, drop, Option}
+use Rattle.std.specs.Prelude.{◌≡◌, ◌+◌, ◌*◌, ◌-◌, ◌<◌, ◌≤◌, ℕ, if◌then◌else◌, List, [], ◌∷◌, ◌++◌, length, take, drop, Option}
 use Rattle.std.specs.Io.KnownBytes.{Consumes}
 use Rattle.ft_script.specs.declared.lines.TheConstants.{CHUNK}
 use Rattle.ft_script.specs.declared.lines.ScriptLines.{ScriptLines}

@@ -6,7 +6,10 @@
 use Rattle.std.specs.Prelude.{◌≡◌, ◌⊎◌, ◌<◌, ℕ, suc, Bool, true, false, List, [], ◌∷◌, ◌++◌, length, Option, string_bytes}
 use Rattle.std.specs.List.{AllByRecursion}
 use Rattle.std.specs.Io.KnownBytes.{Appends, Consumes, IsAtEnd, Keeps}
-use Rattle.ft_core.specs.States.{State, StoredState}
+use Rattle.ft_core.specs.States.{StoredState}
+use Rattle.ft_transfer.specs.Disk.{FileTold}
+use Rattle.ft_names.specs.Names.{Moment, Naming, no_names}
+use Rattle.ft_names.specs.Lines.{GivesText}
 use Rattle.ft_script.specs.declared.gathering.TheConstants.{MOST_GATHERED}
 use Rattle.ft_script.specs.declared.playing.PlayFault.{PlayFault}
 use Rattle.ft_script.specs.declared.playing.PlayFault.TheVariants.{Memory, Read, Write, TooLong, Turns}
@@ -15,29 +18,27 @@ use Rattle.ft_script.specs.declared.strictly.StrictFault.{StrictFault}
 use Rattle.ft_script.specs.declared.strictly.StrictFault.TheVariants.{Play, Line}
 use Rattle.ft_script.specs.Cutting.{BeginsTooLong, Cuts, Fits, IsNext}
 use Rattle.ft_words.specs.Spelling.{IsFreeOf, lines_of}
-use Rattle.ft_line.specs.Requests.{parse_line}
-use Rattle.ft_line.specs.Lines.{GivesText}
 use Rattle.ft_strict.specs.Strict.{AnswersStrictly}
 
--- How the lines of a script are answered: whether the run goes on after a line, the state of the
--- core before, the bytes of the line, the text of its reply, and the state then.
+-- How the lines of a script are answered: whether the run goes on after a line, the core and the
+-- names before, the bytes of the line, the text of its reply, and the core and the names then.
 abbrev pub Answers : Type 1
-Answers = Bool → State → List ℕ → List ℕ → State → Type 0
+Answers = Bool → Moment → List ℕ → List ℕ → Moment → Type 0
 
--- The run goes on after each line.
-abbrev pub AnswersFreely : Answers
-AnswersFreely on old bytes text new = (on ≡ true) × GivesText old (parse_line bytes) text new
+-- The run goes on after each line. The disk has reported this of its files.
+abbrev pub AnswersFreely : (FileTold → Type 0) → Answers
+AnswersFreely tells on old bytes text new = (on ≡ true) × GivesText tells old bytes text new
 
--- The text of a run: what is written for lines, one after another, from the one state of a core to
--- the other. It goes on after each of them.
-abbrev pub IsTextOfRun : Answers → State → List (List ℕ) → List ℕ → State → Type 0
+-- The text of a run: what is written for lines, one after another, from the one moment to the
+-- other. It goes on after each of them.
+abbrev pub IsTextOfRun : Answers → Moment → List (List ℕ) → List ℕ → Moment → Type 0
 IsTextOfRun answers old [] text new = (text ≡ []) × (new ≡ old)
 IsTextOfRun answers old (bytes ∷ lines) text new =
-    (middle : State) × (first : List ℕ) × (rest : List ℕ) × answers true old bytes first middle × IsTextOfRun answers middle lines rest new × (text ≡ first ++ rest)
+    (middle : Moment) × (first : List ℕ) × (rest : List ℕ) × answers true old bytes first middle × IsTextOfRun answers middle lines rest new × (text ≡ first ++ rest)
 
 -- These lines were carried out, and all of the text of their run was written, from what the
 -- writer held before to what it holds after.
-pub record Plays (answers : Answers) (lines : List (List ℕ)) (before after : Option (List ℕ)) (old new : State) : Type 0 where
+pub record Plays (answers : Answers) (lines : List (List ℕ)) (before after : Option (List ℕ)) (old new : Moment) : Type 0 where
   pub text : List ℕ
   pub run : IsTextOfRun answers old lines text new
   pub wrote : Appends before after text
@@ -51,7 +52,7 @@ abbrev pub WritesFront : Option (List ℕ) → Option (List ℕ) → List ℕ �
 WritesFront before after text = Appends before after text ⊎ WritesPart before after text
 
 -- The line was carried out, or not.
-abbrev pub MayAnswer : Answers → List ℕ → State → State → Type 0
+abbrev pub MayAnswer : Answers → List ℕ → Moment → Moment → Type 0
 MayAnswer answers bytes old new = (new ≡ old) ⊎ ((on : Bool) × (text : List ℕ) × answers on old bytes text new)
 
 -- ---- faults
@@ -59,7 +60,7 @@ MayAnswer answers bytes old new = (new ≡ old) ⊎ ((on : Bool) × (text : List
 -- The outcome of the line at which a fault came, if its reply was to be written alone. At Memory
 -- (for the line or for its reply's text) nothing of its reply was written, and it was carried out
 -- or not. At Write it was carried out, and a part of its reply was written.
-abbrev pub StopsLine : Answers → PlayFault → List ℕ → Option (List ℕ) → Option (List ℕ) → State → State → Type 0
+abbrev pub StopsLine : Answers → PlayFault → List ℕ → Option (List ℕ) → Option (List ℕ) → Moment → Moment → Type 0
 StopsLine answers Memory bytes before after old new = Keeps before after × MayAnswer answers bytes old new
 StopsLine answers Write bytes before after old new = (on : Bool) × (text : List ℕ) × answers on old bytes text new × WritesPart before after text
 StopsLine answers Read bytes before after old new = ⊥
@@ -69,13 +70,13 @@ StopsLine answers Turns bytes before after old new = ⊥
 -- Replies that were gathered were not written, or a part of them: those to these lines, with their
 -- line feeds, which come next in the bytes, and then to one more line. All of them were carried
 -- out. Without the last reply they have fewer than `MOST_GATHERED` bytes.
-pub record LosesReplies (answers : Answers) (ends : Type 0) (bytes : List ℕ) (before after : Option (List ℕ)) (old new : State) : Type 0 where
+pub record LosesReplies (answers : Answers) (ends : Type 0) (bytes : List ℕ) (before after : Option (List ℕ)) (old new : Moment) : Type 0 where
   pub lines : List (List ℕ)
   pub rest : List ℕ
   pub cuts : Cuts bytes lines rest
   pub line : List ℕ
   pub next : IsNext ends rest line
-  pub state : State
+  pub state : Moment
   pub text : List ℕ
   pub run : IsTextOfRun answers old lines text state
   pub few : length text < MOST_GATHERED
@@ -85,7 +86,7 @@ pub record LosesReplies (answers : Answers) (ends : Type 0) (bytes : List ℕ) (
   pub wrote : WritesPart before after (text ++ reply)
 
 -- nothing was written, and nothing carried out
-abbrev pub Stays : Option (List ℕ) → Option (List ℕ) → State → State → Type 0
+abbrev pub Stays : Option (List ℕ) → Option (List ℕ) → Moment → Moment → Type 0
 Stays before after old new = Keeps before after × (new ≡ old)
 
 -- The effect of a fault on the bytes after the lines that were taken before it, whose replies were
@@ -93,7 +94,7 @@ Stays before after old new = Keeps before after × (new ≡ old)
 -- to more lines were lost. At Read and Turns: there is no line feed in them, and nothing more was
 -- taken or written. At TooLong: they begin with a line that is too long, and nothing more was taken
 -- or written.
-abbrev pub StopsIn : Answers → PlayFault → Type 0 → List ℕ → Option (List ℕ) → Option (List ℕ) → State → State → Type 0
+abbrev pub StopsIn : Answers → PlayFault → Type 0 → List ℕ → Option (List ℕ) → Option (List ℕ) → Moment → Moment → Type 0
 StopsIn answers Memory ends rest before after old new = Stays before after old new ⊎ ((bytes : List ℕ) × IsNext ends rest bytes × Keeps before after × MayAnswer answers bytes old new)
 StopsIn answers Write ends rest before after old new = LosesReplies answers ends rest before after old new
 StopsIn answers Read ends rest before after old new = IsFreeOf 10 rest × Stays before after old new
@@ -103,58 +104,63 @@ StopsIn answers TooLong ends rest before after old new = BeginsTooLong rest × S
 -- A line of a strict script was carried out and its reply written, and the run does not go on after
 -- it. The fault has its number, from 1, if so many lines were taken before it, its bytes, and its
 -- reply.
-abbrev pub FailsLine : FailedLine → ℕ → List ℕ → Option (List ℕ) → Option (List ℕ) → State → State → Type 0
-FailsLine failed taken bytes before after old new =
-    AnswersStrictly false old bytes (string_bytes failed.reply) new × Appends before after (string_bytes failed.reply) × (failed.number ≡ suc taken) × (failed.line.items ≡ bytes)
+abbrev pub FailsLine : (FileTold → Type 0) → FailedLine → ℕ → List ℕ → Option (List ℕ) → Option (List ℕ) → Moment → Moment → Type 0
+FailsLine tells failed taken bytes before after old new =
+    AnswersStrictly tells false old bytes (string_bytes failed.reply) new × Appends before after (string_bytes failed.reply) × (failed.number ≡ suc taken) × (failed.line.items ≡ bytes)
 
 -- The next line was that one.
-abbrev pub FailsIn : FailedLine → Type 0 → ℕ → List ℕ → Option (List ℕ) → Option (List ℕ) → State → State → Type 0
-FailsIn failed ends taken rest before after old new = (bytes : List ℕ) × IsNext ends rest bytes × FailsLine failed taken bytes before after old new
+abbrev pub FailsIn : (FileTold → Type 0) → FailedLine → Type 0 → ℕ → List ℕ → Option (List ℕ) → Option (List ℕ) → Moment → Moment → Type 0
+FailsIn tells failed ends taken rest before after old new = (bytes : List ℕ) × IsNext ends rest bytes × FailsLine tells failed taken bytes before after old new
 
 -- How far a run came that ended with a fault, of the bytes that were read: first lines, with their
 -- line feeds, were taken, and all their replies written; and then the fault left the rest so, after
 -- so many lines.
-pub record Stopped (answers : Answers) (stops : ℕ → List ℕ → Option (List ℕ) → Option (List ℕ) → State → State → Type 0) (bytes : List ℕ) (before after : Option (List ℕ)) (old new : State) : Type 0 where
+pub record Stopped (answers : Answers) (stops : ℕ → List ℕ → Option (List ℕ) → Option (List ℕ) → Moment → Moment → Type 0) (bytes : List ℕ) (before after : Option (List ℕ)) (old new : Moment) : Type 0 where
   pub lines : List (List ℕ)
   pub rest : List ℕ
   pub cuts : Cuts bytes lines rest
   pub held : Option (List ℕ)
-  pub state : State
+  pub state : Moment
   pub taken : Plays answers lines before held old state
   pub stopped : stops (length lines) rest held after state new
 
 -- ---- whole runs: `left` is what the reader has left, before and after, `held` what a writer has
 
 -- A script was read to its end, each of its lines fits, and all were taken.
-abbrev pub PlaysAll : Answers → Option (List ℕ) → Option (List ℕ) → Option (List ℕ) → Option (List ℕ) → State → State → Type 0
+abbrev pub PlaysAll : Answers → Option (List ℕ) → Option (List ℕ) → Option (List ℕ) → Option (List ℕ) → Moment → Moment → Type 0
 PlaysAll answers left left_after held held_after old new =
     (bytes : List ℕ) × Consumes left left_after bytes × IsAtEnd left_after × AllByRecursion Fits (lines_of bytes) × Plays answers (lines_of bytes) held held_after old new
 
 -- A script was read, and run up to a fault.
-abbrev pub StopsAt : Answers → PlayFault → Option (List ℕ) → Option (List ℕ) → Option (List ℕ) → Option (List ℕ) → State → State → Type 0
+abbrev pub StopsAt : Answers → PlayFault → Option (List ℕ) → Option (List ℕ) → Option (List ℕ) → Option (List ℕ) → Moment → Moment → Type 0
 StopsAt answers fault left left_after held held_after old new =
     (bytes : List ℕ) × Consumes left left_after bytes × Stopped answers (λ taken. StopsIn answers fault (IsAtEnd left_after)) bytes held held_after old new
 
 -- The same of a strict script. A fault may be the first line that did not do what it requests.
-abbrev pub StopsStrictly : StrictFault → Option (List ℕ) → Option (List ℕ) → Option (List ℕ) → Option (List ℕ) → State → State → Type 0
-StopsStrictly (Play fault) left left_after held held_after old new = StopsAt AnswersStrictly fault left left_after held held_after old new
-StopsStrictly (Line failed) left left_after held held_after old new =
-    (bytes : List ℕ) × Consumes left left_after bytes × Stopped AnswersStrictly (FailsIn failed (IsAtEnd left_after)) bytes held held_after old new
+abbrev pub StopsStrictly : (FileTold → Type 0) → StrictFault → Option (List ℕ) → Option (List ℕ) → Option (List ℕ) → Option (List ℕ) → Moment → Moment → Type 0
+StopsStrictly tells (Play fault) left left_after held held_after old new = StopsAt (AnswersStrictly tells) fault left left_after held held_after old new
+StopsStrictly tells (Line failed) left left_after held held_after old new =
+    (bytes : List ℕ) × Consumes left left_after bytes × Stopped (AnswersStrictly tells) (FailsIn tells failed (IsAtEnd left_after)) bytes held held_after old new
 
--- ---- the same of a reader, by what it has left, of a writer, by what it holds, and of a core
+-- ---- the same of a disk, by what it reports, of a reader, by what it has left, of a writer, by
+-- what it holds, and of a core. No name is known before the first line
 
 -- A script was read to its end, and each of its lines was taken and answered freely.
-abbrev pub PlaysFreely : {R W : Type 0} → (R → Option (List ℕ)) → (W → Option (List ℕ)) → R → R → W → W → StoredState → StoredState → Type 0
-PlaysFreely left held reader reader_after writer writer_after old new = PlaysAll AnswersFreely (left reader) (left reader_after) (held writer) (held writer_after) old.state new.state
+abbrev pub PlaysFreely : {R W : Type 0} → (FileTold → Type 0) → (R → Option (List ℕ)) → (W → Option (List ℕ)) → R → R → W → W → StoredState → StoredState → Type 0
+PlaysFreely tells left held reader reader_after writer writer_after old new =
+    (names : Naming) × PlaysAll (AnswersFreely tells) (left reader) (left reader_after) (held writer) (held writer_after) (old.state, no_names) (new.state, names)
 
 -- A strict script was, and each of its lines did what it requests, or may fail.
-abbrev pub PlaysStrictly : {R W : Type 0} → (R → Option (List ℕ)) → (W → Option (List ℕ)) → R → R → W → W → StoredState → StoredState → Type 0
-PlaysStrictly left held reader reader_after writer writer_after old new = PlaysAll AnswersStrictly (left reader) (left reader_after) (held writer) (held writer_after) old.state new.state
+abbrev pub PlaysStrictly : {R W : Type 0} → (FileTold → Type 0) → (R → Option (List ℕ)) → (W → Option (List ℕ)) → R → R → W → W → StoredState → StoredState → Type 0
+PlaysStrictly tells left held reader reader_after writer writer_after old new =
+    (names : Naming) × PlaysAll (AnswersStrictly tells) (left reader) (left reader_after) (held writer) (held writer_after) (old.state, no_names) (new.state, names)
 
 -- A script was read, and run up to this fault.
-abbrev pub StopsFreePlay : {R W : Type 0} → (R → Option (List ℕ)) → (W → Option (List ℕ)) → R → R → W → W → StoredState → StoredState → PlayFault → Type 0
-StopsFreePlay left held reader reader_after writer writer_after old new fault = StopsAt AnswersFreely fault (left reader) (left reader_after) (held writer) (held writer_after) old.state new.state
+abbrev pub StopsFreePlay : {R W : Type 0} → (FileTold → Type 0) → (R → Option (List ℕ)) → (W → Option (List ℕ)) → R → R → W → W → StoredState → StoredState → PlayFault → Type 0
+StopsFreePlay tells left held reader reader_after writer writer_after old new fault =
+    (names : Naming) × StopsAt (AnswersFreely tells) fault (left reader) (left reader_after) (held writer) (held writer_after) (old.state, no_names) (new.state, names)
 
 -- A strict script was.
-abbrev pub StopsStrictPlay : {R W : Type 0} → (R → Option (List ℕ)) → (W → Option (List ℕ)) → R → R → W → W → StoredState → StoredState → StrictFault → Type 0
-StopsStrictPlay left held reader reader_after writer writer_after old new fault = StopsStrictly fault (left reader) (left reader_after) (held writer) (held writer_after) old.state new.state
+abbrev pub StopsStrictPlay : {R W : Type 0} → (FileTold → Type 0) → (R → Option (List ℕ)) → (W → Option (List ℕ)) → R → R → W → W → StoredState → StoredState → StrictFault → Type 0
+StopsStrictPlay tells left held reader reader_after writer writer_after old new fault =
+    (names : Naming) × StopsStrictly tells fault (left reader) (left reader_after) (held writer) (held writer_after) (old.state, no_names) (new.state, names)

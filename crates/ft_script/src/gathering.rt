@@ -23,7 +23,7 @@ pub(crate) struct Script {
 }
 
 impl Script {
-    /// Nothing is read yet.
+    /// Returns a reader of lines that has read nothing yet.
     pub(crate) fn new(alloc: Global) -> Result<Script, Memory>
         ensures uncut { IfOk result (λ script. uncut script.lines ≡ []) }
         ensures count { IfOk result (λ script. cut_count script.lines ≡ 0) }

@@ -44,7 +44,7 @@ pub(crate) struct ScriptLines {
 impl ScriptLines {
     ghost use Rattle.ft_script.specs.Reading.{CutsNothing, GivesLine, HasRoom, IsLastLine, ReadsOn, StopsCutting, StopsReading, begun, cut_count, cut_line, to_read, unscanned, uncut};
 
-    /// Nothing is read yet.
+    /// Returns lines of which nothing is read yet.
     pub(crate) fn new(alloc: Global) -> Result<ScriptLines, Memory>
         ensures uncut { IfOk result (λ lines. uncut lines ≡ []) }
         ensures count { IfOk result (λ lines. cut_count lines ≡ 0) }
@@ -60,14 +60,14 @@ impl ScriptLines {
         })
     }
 
-    /// The line that was cut last, without its line feed.
+    /// Returns the line that was cut last, without its line feed.
     pub(crate) fn line(&self) -> &[u8]
         ensures { result.now ≡ cut_line self.now }
     {
         self.line.as_slice()
     }
 
-    /// How many lines were cut.
+    /// Returns how many lines were cut.
     pub(crate) fn count(&self) -> u64
         ensures { result ≡ cut_count self.now }
     {

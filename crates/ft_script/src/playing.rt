@@ -1,5 +1,6 @@
 // Runs a script: reads lines, carries them out, and writes the replies.
 ghost use Rattle.std.specs.Prelude.{◌≡◌, ◌<◌, [], IfErr, OnOk};
+ghost use Rattle.ft_names.specs.Names.{moment};
 ghost use Rattle.ft_script.specs.Gathering.{GathersFrom, StopsGatheringFrom, WritesReply, StopsReply};
 ghost use Rattle.ft_script.specs.Reading.{to_read, unscanned};
 ghost use Rattle.ft_script.specs.Runs.{AnswersFreely, PlaysFreely, StopsFreePlay};
@@ -8,7 +9,8 @@ use crate::gathering::Script;
 use crate::writing::write_out;
 use ft_base::Memory;
 use ft_core::Core;
-use ft_line::{reply_into, reply_to};
+use ft_names::{Names, reply_into};
+use ft_transfer::DiskFiles;
 use std::alloc::{AllocError, Global};
 use std::io::{Read, Write};
 use thiserror::Error;
@@ -61,7 +63,8 @@ impl From<AllocError> for PlayFault {
     }
 }
 
-/// Runs the script that a reader gives, up to its end, and writes the replies.
+/// Runs the script that a reader gives, up to its end, and writes the replies. Its transfers read
+/// and write these files of the disk.
 ///
 /// The script is read in pieces of up to 65,536 bytes. All lines that have come whole are carried
 /// out, and their replies are written together, before more is read. If they have 65,536 bytes or
@@ -80,59 +83,75 @@ impl From<AllocError> for PlayFault {
 /// - TooLong: a line has more than `LONGEST_LINE` bytes. It was not taken.
 /// - Turns: `MOST_READS` reads did not reach the end. An interrupted read counts, and is tried
 ///   again. A line that had not ended was not taken.
-pub fn play<R: Read, W: Write>(
+pub fn play<R: Read, W: Write, F: DiskFiles>(
     alloc: Global,
     reader: &mut R,
     writer: &mut W,
+    files: &F,
     core: &mut Core,
 ) -> Result<(), PlayFault>
-    ensures ok { OnOk result (PlaysFreely R.remaining W.contents reader.old reader.new
-        writer.old writer.new core.old core.new) }
-    ensures fault { IfErr result (StopsFreePlay R.remaining W.contents reader.old reader.new
-        writer.old writer.new core.old core.new) }
+    ensures ok { OnOk result (PlaysFreely (F.tells files.now) R.remaining W.contents
+        reader.old reader.new writer.old writer.new core.old core.new) }
+    ensures fault { IfErr result (StopsFreePlay (F.tells files.now) R.remaining W.contents
+        reader.old reader.new writer.old writer.new core.old core.new) }
 {
+    let mut names = Names::new(alloc);
     let mut script = Script::new(alloc)?;
     while script.read_more(reader)? {
-        let answered = answer_lines(alloc, &mut script, core);
+        let answered = answer_lines(alloc, &mut script, &mut names, files, core);
         script.write_replies(writer)?;
         answered?;
     }
     if !script.lines.cut_last() {
         return Ok(());
     }
-    play_last(alloc, script.lines.line(), writer, core)
+    play_last(alloc, script.lines.line(), writer, &mut names, files, core)
 }
 
 /// Carries out the lines that were read, until enough replies are gathered.
-fn answer_lines(alloc: Global, script: &mut Script, core: &mut Core) -> Result<(), PlayFault>
+fn answer_lines<F: DiskFiles>(
+    alloc: Global,
+    script: &mut Script,
+    names: &mut Names,
+    files: &F,
+    core: &mut Core,
+) -> Result<(), PlayFault>
     requires { script.old.replies.items ≡ [] }
     ensures ok { OnOk result
-        (GathersFrom AnswersFreely script.old script.new core.old core.new) }
+        (GathersFrom (AnswersFreely (F.tells files.now)) script.old script.new
+        (moment core.old names.old) (moment core.new names.new)) }
     ensures fault { IfErr result
-        (λ fault. StopsGatheringFrom AnswersFreely fault script.old script.new core.old core.new) }
+        (λ fault. StopsGatheringFrom (AnswersFreely (F.tells files.now)) fault script.old
+        script.new (moment core.old names.old) (moment core.new names.new)) }
     ensures less { OnOk result (0 < unscanned script.old.lines
         → to_read script.new.lines < to_read script.old.lines) }
 {
     let mut reply = String::new(alloc);
     while script.may_gather() && script.lines.cut()? {
-        reply_into(alloc, script.lines.line(), core, &mut reply)?;
+        reply_into(alloc, script.lines.line(), names, files, core, &mut reply)?;
         script.gather(reply.as_bytes())?;
     }
     Ok(())
 }
 
 /// Carries out the last line, and writes its reply.
-fn play_last<W: Write>(
+fn play_last<W: Write, F: DiskFiles>(
     alloc: Global,
     line: &[u8],
     writer: &mut W,
+    names: &mut Names,
+    files: &F,
     core: &mut Core,
 ) -> Result<(), PlayFault>
-    ensures ok { OnOk result (WritesReply AnswersFreely line.now W.contents writer.old writer.new
-        core.old core.new) }
-    ensures fault { IfErr result (λ fault. StopsReply AnswersFreely fault line.now
-        W.contents writer.old writer.new core.old core.new) }
+    ensures ok { OnOk result (WritesReply (AnswersFreely (F.tells files.now)) line.now
+        W.contents writer.old writer.new (moment core.old names.old)
+        (moment core.new names.new)) }
+    ensures fault { IfErr result
+        (λ fault. StopsReply (AnswersFreely (F.tells files.now)) fault line.now
+        W.contents writer.old writer.new (moment core.old names.old)
+        (moment core.new names.new)) }
 {
-    let reply = reply_to(alloc, line, core)?;
+    let mut reply = String::new(alloc);
+    reply_into(alloc, line, names, files, core, &mut reply)?;
     write_out(writer, reply.as_bytes())
 }

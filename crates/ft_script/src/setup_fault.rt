@@ -12,7 +12,8 @@ pub enum SetupFault {
     #[error("BadLimits")]
     BadLimits,
     /// The line of this number, from 1, is not a valid request, or its request is refused, fails or
-    /// waits; or the line is the last, and a transaction is live after it.
+    /// waits, or its transfer is not made; or the line is the last, and a transaction is live after
+    /// it.
     #[error("Script {0}")]
     Script(u64),
 }

@@ -48,7 +48,7 @@ impl Model for CommittedCalls {
 }
 
 impl CommittedCalls {
-    /// Nothing was gone over. Takes no memory.
+    /// Returns an iterator that has gone over nothing. Takes no memory.
     pub fn new(alloc: Global) -> CommittedCalls
         ensures events { result.events ≡ [] }
         ensures forgotten { result.forgotten ≡ 0 }
@@ -94,8 +94,8 @@ impl CommittedCalls {
         next
     }
 
-    /// The events of the core, all gone over, are forgotten: the next ones are given without them.
-    /// Takes no memory.
+    /// Forgets the events of the core, which were all gone over: the next ones are given without
+    /// them. Takes no memory.
     pub fn forget(&mut self, core: &Core)
         requires { self.old.events ≡ core.now.state.events }
         ensures events { self.new.events ≡ self.old.events }

@@ -28,7 +28,7 @@ pub(crate) struct Walk {
 }
 
 impl Walk {
-    /// Nothing was gone over. Takes no memory.
+    /// Returns a walk that has gone over nothing. Takes no memory.
     pub(crate) fn new(alloc: Global) -> Walk
         ensures { IsWalk 0 result [] [] }
     {

@@ -41,7 +41,7 @@ impl From<Memory> for LineFault {
 pub struct Session {
     pub core: Core,
     pub last: LastAnswer,
-    /// Whether a call waits behind older asks that conflict with it.
+    /// Whether a call waits in turn for older asks that conflict with it.
     pub is_fair: bool,
     /// The transactions that asked for a call and had to wait, in their order, and some that no
     /// longer wait.
@@ -50,7 +50,7 @@ pub struct Session {
 
 impl Session {
     /// Returns a session with a core, of which nothing has been requested yet, and in which calls
-    /// wait behind older asks, or do not.
+    /// wait in turn for older asks, or do not.
     pub fn new(alloc: Global, core: Core, is_fair: bool) -> Session
         ensures core { result.core ≡ core }
         ensures last { result.last ≡ LastAnswer.Text [] }
@@ -147,7 +147,7 @@ fn cleared(core: &mut Core) -> Answer
     }
 }
 
-/// The refusal of a call in a transaction for which there is no memory.
+/// Returns the refusal of a call in a transaction for which there is no memory.
 fn refusal(core: &Core, txn: TxnId) -> Fault
     ensures { (call : CallOf)
         → IsStep exact_rule core.now.state (Ask txn call) (Refused result) core.now.state }

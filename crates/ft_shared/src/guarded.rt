@@ -53,7 +53,7 @@ impl<J: Sharing, C: Shareable> Model for Guarded<J, C> {
 }
 
 impl<J: Sharing, C: Shareable> Guarded<J, C> {
-    /// A core that has no views.
+    /// Returns a core that has no views.
     pub(crate) fn alone(core: C) -> Guarded<J, C>
         requires { without_views (C.stored core).state ≡ J.origin }
         ensures core { result.core ≡ C.stored core }
@@ -66,7 +66,7 @@ impl<J: Sharing, C: Shareable> Guarded<J, C> {
         }
     }
 
-    /// A core with its views.
+    /// Returns a core with its views.
     pub(crate) fn with_views(core: C, publisher: Publisher<ViewsOf<J>>) -> Guarded<J, C>
         requires from { J.origin.from ≡ (C.stored core).state }
         requires shown { J.origin.shown ≡ true }
@@ -81,7 +81,7 @@ impl<J: Sharing, C: Shareable> Guarded<J, C> {
         }
     }
 
-    /// The core.
+    /// Returns the core.
     pub fn core(&self) -> &Core
         ensures core { result.now ≡ self.now.core }
         ensures from { IsOfCoreFrom J.origin.from self.now.core.state }

@@ -83,7 +83,7 @@ pub fn with_views<C: Shareable>(core: C) -> Result<Opened<C>, ViewsRefused<C>>
     }
 }
 
-/// Two copies of the base, with nothing of a new book.
+/// Returns two copies of the base, with nothing of a new book.
 fn blank(alloc: Global, base: &Tree) -> Result<Blank, Memory>
     requires { IsReadable base.now }
     ensures { IfOk result (λ blank. AreCopies (tidy base.now) blank.book blank.nothing blank.first

@@ -64,7 +64,7 @@ pub(crate) struct Blank {
 }
 
 impl<J: ViewsBrand> Publisher<J> {
-    /// Nothing is published.
+    /// Returns a publisher that has published nothing.
     pub(crate) fn new(alloc: Global, blank: Blank) -> Result<Publisher<J>, Memory>
         requires book { (blank.book ≡ J.opened.book) × (blank.nothing.book ≡ J.opened.book) }
         requires nothing { blank.nothing.calls ≡ [] }
@@ -134,7 +134,8 @@ impl<J: ViewsBrand> Publisher<J> {
         Ok((self.fed.len(), Receipt::new(self.fed.again())))
     }
 
-    /// The events of the core, all gone over, are forgotten: the next ones are given without them.
+    /// Forgets the events of the core, which were all gone over: the next ones are given without
+    /// them.
     pub(crate) fn forget(&mut self, core: &Core)
         requires { self.old.commits.events ≡ core.now.state.events }
         ensures published { self.new.published ≡ self.old.published }

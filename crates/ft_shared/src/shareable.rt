@@ -31,7 +31,7 @@ pub trait Shareable {
     // Whether it knows the tree of its base.
     ghost knows_base: { Self → Type 0 };
 
-    /// The core, for what only looks at it.
+    /// Returns the core, for what only looks at it.
     fn core(&self) -> &Core
         ensures { result.now ≡ stored self.now };
 
@@ -39,7 +39,7 @@ pub trait Shareable {
     fn events(&self) -> &[Event]
         ensures { result.now ≡ events_kept (forgotten self.now) (stored self.now).state };
 
-    /// The tree of the base, in which no place is of no use.
+    /// Returns the tree of the base, in which no place is of no use.
     fn base(&self) -> &Tree
         requires { knows_base self.now }
         ensures tree { tidy result.now ≡ (stored self.now).state.base.tree }

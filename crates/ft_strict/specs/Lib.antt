@@ -1,3 +1,2 @@
 -- What callers cite.
-pub mod Wells
 pub mod Strict

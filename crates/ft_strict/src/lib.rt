@@ -6,4 +6,4 @@ mod replying;
 mod well;
 
 pub use replying::{StrictReply, strict_reply_to};
-pub use well::{is_well, try_execute};
+pub use well::try_execute;

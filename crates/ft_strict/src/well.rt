@@ -1,23 +1,36 @@
-// Whether a request was granted and did not fail.
-ghost use Rattle.std.specs.Prelude.{◌≡◌, ◌↔◌, IfOk, IsTrue, OnErr};
-ghost use Rattle.ft_strict.specs.Wells.{IsMet, is_well};
+// A request for which there must be memory.
+ghost use Rattle.std.specs.Prelude.{◌≡◌, ◌↔◌, option_copied, IfOk, IsTrue, OnErr};
+ghost use Rattle.ft_line.specs.Wells.{IsMet};
+ghost use Rattle.ft_names.specs.Names.{moment, names_after, names_of};
 
 use ft_base::Memory;
-use ft_calls::Reply;
 use ft_core::{Answer, Core, Fault, Request};
 use ft_line::execute;
+use ft_names::Names;
+use std::alloc::Global;
 
-/// Carries out a request, as `execute` does, for which there must be memory.
+/// Carries out a request, as `execute` does, for which there must be memory, and gives the name to
+/// its answer, if there is one.
 ///
-/// Fails only for lack of memory.
-pub fn try_execute(core: &mut Core, request: Request) -> Result<Answer, Memory>
+/// Fails only for lack of memory. Room for the name is reserved before the request is carried out.
+pub fn try_execute(
+    alloc: Global,
+    request: Request,
+    given: Option<&[u8]>,
+    names: &mut Names,
+    core: &mut Core,
+) -> Result<Answer, Memory>
     ensures ok { IfOk result (λ answer. IsMet core.old.state request answer core.new.state) }
-    ensures err { OnErr result (core.new.state ≡ core.old.state) }
+    ensures names { IfOk result (λ answer. names_of names.new
+        ≡ names_after (option_copied given.entry) answer (names_of names.old)) }
+    ensures err { OnErr result (moment core.new names.new ≡ moment core.old names.old) }
 {
+    names.reserve(alloc, given)?;
     let answer = execute(core, request);
     if wants_memory(&answer) {
         return Err(Memory);
     }
+    names.give(given, &answer);
     Ok(answer)
 }
 
@@ -26,19 +39,4 @@ fn wants_memory(answer: &Answer) -> bool
     ensures { IsTrue result ↔ answer.now ≡ Answer.Refused Fault.Memory }
 {
     matches!(answer, Answer::Refused(Fault::Memory))
-}
-
-/// Returns whether a request was granted and did not fail.
-pub fn is_well(answer: &Answer) -> bool
-    ensures { result ≡ is_well answer.now }
-{
-    match answer {
-        Answer::Granted {
-            reply: Reply::Failed(_),
-            ..
-        }
-        | Answer::Waits { .. }
-        | Answer::Refused(_) => false,
-        _ => true,
-    }
 }

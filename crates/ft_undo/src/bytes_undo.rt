@@ -9,7 +9,7 @@ use ft_tree::{FileUndo, HintedFile, Tree};
 use std::alloc::{AllocFailed, Global};
 use std::marker::Model;
 
-/// What undoes a change of a file's bytes, with the time that they had. It is a separate type, so
+/// The undo of a change of a file's bytes, with the time that they had. It is a separate type, so
 /// that the other before-images stay small.
 ///
 /// Clauses see it as what the file held before the change and after it.

@@ -4,7 +4,7 @@ ghost use Rattle.std.specs.Prelude.{◌≡◌};
 use ft_tree::{Form, Node};
 use std::marker::Model;
 
-/// What was in the place of an entry before it was set, or nothing if the place was new.
+/// The content of an entry's place before it was set, or nothing if the place was new.
 ///
 /// Clauses see it as that. It takes half the room of the options.
 #[derive(Drop)]

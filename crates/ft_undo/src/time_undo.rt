@@ -6,7 +6,7 @@ use ft_tree::{HintedFile, Rare, Timestamp, Tree};
 use std::marker::Model;
 use std::snapshot::Snapshot;
 
-/// What undoes the setting of the time of a file's bytes.
+/// The undo of setting the time of a file's bytes.
 ///
 /// Clauses see it as what the file held before and after. It keeps only the time that the bytes
 /// had: the snapshots have no bytes.

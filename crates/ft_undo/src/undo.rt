@@ -22,7 +22,7 @@ use std::marker::Model;
 /// A cell that was set, with what was in its place before, or nothing if the place was new.
 #[derive(Drop)]
 pub enum BeforeImage {
-    /// What an entry led to.
+    /// The node to which an entry led.
     Entry {
         entry: Entry,
         was: EntryWas,
@@ -37,7 +37,7 @@ pub enum BeforeImage {
         file: u64,
         was: Option<u64>,
     },
-    /// What a change of a file's bytes destroyed, with the time that they had.
+    /// The bytes that a change of a file destroyed, with the time that they had.
     Bytes {
         file: u64,
         undo: BytesUndo,
@@ -47,12 +47,12 @@ pub enum BeforeImage {
         fd: u64,
         was: Option<Option<OpenFile>>,
     },
-    /// What was kept of a directory's attributes.
+    /// The attributes that a directory had, as they were kept.
     DirAttributes {
         dir: u64,
         was: Rare<Attributes>,
     },
-    /// What was kept of a file's attributes.
+    /// The attributes that a file had, as they were kept.
     FileAttributes {
         file: u64,
         was: Rare<Attributes>,

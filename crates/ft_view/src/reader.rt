@@ -27,8 +27,8 @@ pub enum ViewFault {
     /// views are no longer published, and this is permanent.
     ///
     /// It would also be the answer for a view that is older than what the reader knows. No such
-    /// view occurs: a list is published before its receipt is given out, and it is never taken
-    /// back.
+    /// view occurs: a list is published before its receipt is given out, and it is never
+    /// withdrawn.
     #[error("NoReader")]
     NoReader = 2,
 }

@@ -10,7 +10,7 @@ use ft_core::{Core, TxnId, in_front};
 use std::alloc::Global;
 
 /// Returns those ahead of a transaction: they are in front of it in a queue, and do not wait for
-/// it, through others or not. One that is not in the queue is behind all of it.
+/// it, through others or not. If it is not in the queue, all of the queue is in front of it.
 ///
 /// Out of memory is the only refusal. If any are in front of it, it takes the time to list all
 /// waits of the core.
@@ -27,8 +27,8 @@ pub fn ahead_of(core: &Core, queue: &[TxnId], txn: TxnId) -> Result<Vec<TxnId>, 
     Ok(ahead)
 }
 
-/// Returns an edge for each transaction that may wait for another, if calls wait behind those in
-/// front of them in a queue.
+/// Returns an edge for each transaction that may wait for another, if calls wait in turn for those
+/// in front of them in a queue.
 fn edges_behind(core: &Core, queue: &[TxnId]) -> Result<Vec<Edge>, Memory>
     ensures { IfOk result (λ edges. AreEdgesBehind core.now.state queue.now edges.items) }
 {

@@ -41,7 +41,7 @@ pub fn judged_edges(core: &Core) -> Result<(Vec<Edge>, Verdict), Memory>
     with_verdict(edges(core)?)
 }
 
-/// These waits-for edges, and the verdict on them.
+/// Returns these waits-for edges, and the verdict on them.
 ///
 /// Out of memory is the only refusal.
 pub fn with_verdict(edges: Vec<Edge>) -> Result<(Vec<Edge>, Verdict), Memory>

@@ -24,7 +24,7 @@ struct Step {
 }
 
 impl Step {
-    /// A transaction with all edges out of it ahead.
+    /// Returns a transaction with all edges out of it ahead.
     fn new(edges: &[Edge], txn: TxnId) -> Step
         requires { AreInOrder edges.now }
         ensures txn { result.txn ≡ txn }
@@ -59,7 +59,7 @@ pub(crate) struct Walk<'a> {
 }
 
 impl<'a> Walk<'a> {
-    /// A walk that has seen nothing.
+    /// Returns a walk that has seen nothing.
     pub(crate) fn new(alloc: Global, edges: &'a [Edge]) -> Result<Walk<'a>, Memory>
         ensures edges { IfOk result (λ walk. walk.edges.now ≡ edges.now) }
         ensures stands { IfOk result (λ walk. Stands walk []) }
@@ -77,7 +77,7 @@ impl<'a> Walk<'a> {
         })
     }
 
-    /// The transactions that are ranked, in rising order, with their ranks.
+    /// Returns the transactions that are ranked, in rising order, with their ranks.
     pub(crate) fn ranks_list(&self) -> Result<Vec<(TxnId, u64)>, Memory>
         ensures { IfOk result (λ list. list.items ≡ finite.entries self.now.ranks) }
     {
@@ -179,7 +179,7 @@ impl<'a> Walk<'a> {
         Ok(self.path.pop())
     }
 
-    /// The transactions on the path, from one of them on.
+    /// Returns the transactions on the path, from one of them on.
     fn path_from(&self, txn: TxnId) -> Result<Vec<TxnId>, Memory>
         ensures { IfOk result (λ members. members.items
             ≡ from_first txn (path_txns self.now.path.items)) }
@@ -194,7 +194,7 @@ impl<'a> Walk<'a> {
     }
 }
 
-/// The transactions that edges name.
+/// Returns the transactions that edges name.
 fn txns_named(alloc: Global, edges: &[Edge]) -> Result<Table<()>, Memory>
     ensures { IfOk result (λ txns. (txn : ℕ)
         → finite.contains_key txns txn ≡ true ↔ IsNamed edges.now txn) }

@@ -70,9 +70,9 @@ reply_text Done = codes "ok"
 reply_text (Names names) = codes "ok " ++ decimal (length names) ++ listing names
 reply_text (Number number) = codes "ok " ++ decimal number
 reply_text (Bytes bytes) = codes "ok " ++ decimal (length bytes) ++ data_text bytes
-reply_text (Info kind number links size attributes time) =
-    codes "ok " ++ kind_text kind ++ codes " " ++ decimal number ++ codes " " ++ decimal links ++ codes " " ++ decimal size
-    ++ attributes_tail attributes ++ time_tail time
+reply_text (Info info) =
+    codes "ok " ++ kind_text info.kind ++ codes " " ++ decimal info.number ++ codes " " ++ decimal info.links ++ codes " " ++ decimal info.size
+    ++ attributes_tail info.attributes ++ time_tail info.time
 reply_text (Failed errno) = errno_name errno
 
 -- each of some lines after a line feed

@@ -185,7 +185,7 @@ pub fn parse_two_paths(alloc: Global, words: Words<'_>) -> Result<(FilePath, Fil
     Ok((first, second))
 }
 
-/// `P` or `MODE P`: one word alone is a path.
+/// `P` or `MODE P`: a single word is a path.
 pub fn parse_optional_mode_path(
     alloc: Global,
     words: Words<'_>,

@@ -13,8 +13,8 @@ use std::fmt;
 
 /// A call: its name and its arguments, as a line of words has them.
 ///
-/// An empty last word is left out with the space before it, but for the path behind the mode of a
-/// `mkdir`, since a mode alone would be read as a path.
+/// An empty last word is left out with the space before it, except the path after the mode of a
+/// `mkdir`, since a mode without a path would be read as one.
 #[derive(Clone, Copy)]
 pub struct CallText<'a>(pub &'a Call);
 

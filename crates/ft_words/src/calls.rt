@@ -16,7 +16,7 @@ use ft_posix::Call;
 use ft_tree::Timestamp;
 use std::alloc::Global;
 
-/// The call of this name, with the arguments that the words behind it spell.
+/// Returns the call of this name, with the arguments that the words after it spell.
 #[tactic(auto, using(crate::proofs::Reading::call_of_verb))]
 pub fn parse_call(alloc: Global, name: &[u8], words: Words<'_>) -> Result<Call, ParseError>
     ensures { Reads result (parse_call name.now words.entry) }

@@ -13,7 +13,7 @@ use ft_path::{FilePath, PathFault};
 use percent_encoding::percent_decode;
 use std::alloc::Global;
 
-/// The path that a word codes. A path with a NUL byte is none.
+/// Returns the path that a word codes. A path with a NUL byte is none.
 pub fn parse_path(alloc: Global, word: &[u8]) -> Result<FilePath, ParseError>
     ensures { Reads result (parse_path word.now) }
 {

@@ -12,7 +12,7 @@ pub(crate) const CODED_PIECE: usize = 256;
 const MOST_MADE: usize = LANES + 3;
 
 /// Puts the first of some bytes, percent-coded, at the front of a place: all of them, or as many as
-/// there is room for. Tells how many bytes that makes, and what is left.
+/// there is room for. Returns how many bytes that makes, and what is left.
 pub(crate) fn put_coded<'a>(bytes: &'a [u8], place: &mut [u8; CODED_PIECE]) -> (usize, &'a [u8])
     ensures within { result.0 ≤ CODED_PIECE }
     ensures text { take result.0 place.new ++ coded result.1.now ≡ coded bytes.now }

@@ -21,6 +21,7 @@ mod words;
 
 pub use call_text::CallText;
 pub use calls::{parse_call, parse_descriptor_call};
+pub use coded::parse_path;
 pub use lines::Lines;
 pub use modes::{ModeText, OwnerText, parse_mode, parse_owner};
 pub use numbers::{parse_i64, parse_u32, parse_u64};

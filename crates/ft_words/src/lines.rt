@@ -19,7 +19,7 @@ impl<'a> Model for Lines<'a> {
 }
 
 impl<'a> Lines<'a> {
-    /// The lines of this text: none of an empty one.
+    /// Returns the lines of a text: none if it is empty.
     pub fn of(text: &'a [u8]) -> Lines<'a>
         ensures { result ≡ lines_of text.entry.now }
     {

@@ -6,7 +6,7 @@ use crate::numbers::parse_u32;
 use ft_tree::{Attributes, MOST_MODE, Timestamp};
 use std::fmt;
 
-/// The mode that a word of 1 to 5 octal digits stands for, where it is at most 07777.
+/// Returns the mode that a word of 1 to 5 octal digits stands for, if it is at most 07777.
 pub fn parse_mode(word: &[u8]) -> Option<u16>
     ensures { result ≡ parse_mode word.now }
 {
@@ -33,9 +33,9 @@ fn with_octal_digit(mode: u16, byte: u8) -> Option<u16>
     (more <= MOST_MODE).then_some(more)
 }
 
-/// The owner or the group that a word names: a number below 2^32 of at most 10 digits. `-` names
-/// none, so that the one that is there stays. 4294967295 is none either and no such word, since
-/// POSIX.1-2017 (System Interfaces, chown) has it stand for the one that is there.
+/// Returns the owner or the group that a word names: a number below 2^32 of at most 10 digits. `-`
+/// names none, so that the one that is there stays. 4294967295 is none either and no such word,
+/// since POSIX.1-2017 (System Interfaces, chown) has it stand for the one that is there.
 pub fn parse_owner(word: &[u8]) -> Option<Option<u32>>
     ensures { result ≡ parse_owner word.now }
 {

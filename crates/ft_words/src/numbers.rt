@@ -2,7 +2,7 @@
 ghost use Rattle.std.specs.Prelude.{◌≡◌, ◌*◌, Some, None};
 ghost use Rattle.ft_words.specs.Spelling.{parse_u64, parse_u32, parse_i64, not_negative, negative, with_digit};
 
-/// The number that a word of 1 to 20 digits stands for, where it is below 2^64.
+/// Returns the number that a word of 1 to 20 digits stands for, if it is below 2^64.
 pub fn parse_u64(word: &[u8]) -> Option<u64>
     ensures { result ≡ parse_u64 word.now }
 {
@@ -37,7 +37,7 @@ pub fn parse_u32(word: &[u8]) -> Option<u32>
     u32::try_from(parse_u64(word)?).ok()
 }
 
-/// The integer that such a word stands for, with `-` before it where it is negative.
+/// Returns the integer that such a word stands for, with `-` before it if it is negative.
 pub fn parse_i64(word: &[u8]) -> Option<i64>
     ensures { result ≡ parse_i64 word.now }
 {

@@ -5,7 +5,7 @@ use std::alloc::AllocError;
 /// Why words could not be read.
 #[derive(Clone, Copy, Debug, PartialEq, Eq)]
 pub enum ParseError {
-    /// They spell nothing that there is.
+    /// They are not a valid request.
     Misspelt,
     /// There was no memory.
     NoMemory,

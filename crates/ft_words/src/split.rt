@@ -4,7 +4,7 @@ ghost use Rattle.ft_words.specs.Spelling.{IsFreeOf, IsSplitAt};
 
 use bstr::ByteSlice;
 
-/// What stands before the first place of a byte, and what stands after it, where the byte is
+/// Returns what comes before the first place of a byte, and what comes after it, if the byte is
 /// there.
 pub fn split_once(byte: u8, text: &[u8]) -> Option<(&[u8], &[u8])>
     ensures { MatchOption result (IsFreeOf byte text.now)

@@ -10,7 +10,7 @@ use ft_tree::{Attributes, Kind, Timestamp};
 use percent_encoding::ascii_str;
 use std::fmt;
 
-/// What a call replied.
+/// The reply to a call.
 #[derive(Clone, Copy)]
 pub struct ReplyText<'a>(pub &'a Reply);
 
@@ -28,19 +28,15 @@ impl fmt::Display for ReplyText<'_> {
                 bytes.len(),
                 CodedArgument(bytes.as_slice())
             ),
-            Reply::Info {
-                kind,
-                number,
-                links,
-                size,
-                attributes,
-                time,
-            } => write!(
+            Reply::Info(info) => write!(
                 f,
-                "ok {} {number} {links} {size}{}{}",
-                kind_text(*kind),
-                AttributesTail(*attributes),
-                TimeTail(*time)
+                "ok {} {} {} {}{}{}",
+                kind_text(info.kind),
+                info.number,
+                info.links,
+                info.size,
+                AttributesTail(info.attributes),
+                TimeTail(info.time)
             ),
             Reply::Failed(errno) => errno.fmt(f),
         }

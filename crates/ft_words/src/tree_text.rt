@@ -11,7 +11,7 @@ use std::alloc::Global;
 use std::fmt;
 use std::marker::Model;
 
-/// What a tree holds, row by row. Clauses see its text.
+/// The contents of a tree, row by row. Clauses see its text.
 #[derive(Drop)]
 pub struct TreeText<'a> {
     rows: &'a [TreeRow],
@@ -26,7 +26,7 @@ impl<'a> Model for TreeText<'a> {
 }
 
 impl<'a> TreeText<'a> {
-    /// That of these rows. Takes memory only where there are symbolic links.
+    /// Returns the text of these rows. Takes memory only if there are symbolic links.
     pub fn of(alloc: Global, rows: &'a [TreeRow]) -> Result<TreeText<'a>, Memory>
         ensures { IfOk result (λ text. text ≡ tree_text rows.entry.now) }
     {
@@ -144,7 +144,7 @@ impl fmt::Display for RowText<'_> {
     }
 }
 
-/// How a file is open.
+/// Returns how a file is open.
 pub(crate) fn access_text(access: AccessMode) -> &'static str
     ensures { result.now ≡ access_text access }
 {
@@ -155,7 +155,7 @@ pub(crate) fn access_text(access: AccessMode) -> &'static str
     }
 }
 
-/// A letter, where a flag is set.
+/// Returns a letter, if a flag is set.
 pub(crate) fn flag_text(is_set: bool, letter: &'static str) -> &'static str
     ensures { result.now ≡ flag_text is_set letter.entry.now }
 {

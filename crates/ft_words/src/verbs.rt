@@ -7,10 +7,10 @@ use ft_path::FilePath;
 use ft_posix::Call;
 use ft_tree::Timestamp;
 
-/// What a call is named after.
+/// The verb that names a call.
 #[derive(Clone, Copy)]
 pub(crate) enum Verb {
-    /// A call on one path alone.
+    /// A call on only one path.
     OnPath(PathVerb),
     Mkdir,
     Open,
@@ -154,7 +154,7 @@ impl Verb {
         }
     }
 
-    /// How it is spelled.
+    /// Returns how it is spelled.
     pub(crate) fn word(self) -> &'static str
         ensures { result.now ≡ word self }
     {
@@ -192,7 +192,7 @@ impl Verb {
 }
 
 impl PathVerb {
-    /// The call on this path.
+    /// Returns the call on this path.
     pub(crate) fn on(self, path: FilePath) -> Call
         ensures { result ≡ on_path self path }
     {
@@ -208,7 +208,7 @@ impl PathVerb {
 }
 
 impl PathsVerb {
-    /// The call on these paths.
+    /// Returns the call on these paths.
     pub(crate) fn on(self, first: FilePath, second: FilePath) -> Call
         ensures { result ≡ on_paths self first second }
     {
@@ -230,7 +230,7 @@ impl PathsVerb {
 }
 
 impl OwningVerb {
-    /// The call that sets these of what this path leads to.
+    /// Returns the call that sets these of what this path leads to.
     pub(crate) fn with(self, owner: Option<u32>, group: Option<u32>, path: FilePath) -> Call
         ensures { result ≡ with_owners self owner group path }
     {
@@ -242,7 +242,7 @@ impl OwningVerb {
 }
 
 impl TimingVerb {
-    /// The call that sets this time of what this path leads to.
+    /// Returns the call that sets this time of what this path leads to.
     pub(crate) fn with(self, time: Timestamp, path: FilePath) -> Call
         ensures { result ≡ with_time self time path }
     {
@@ -253,7 +253,7 @@ impl TimingVerb {
     }
 }
 
-/// The one of these that a word spells.
+/// Returns the one of these that a word spells.
 pub(crate) fn spelled(verbs: &[Verb], word: &[u8]) -> Option<Verb>
     ensures { result ≡ look_up (words_of verbs.now) word.now }
 {

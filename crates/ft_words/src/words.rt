@@ -20,7 +20,7 @@ impl<'a> Model for Words<'a> {
 }
 
 impl<'a> Words<'a> {
-    /// The words of this text: at least one, which may be empty.
+    /// Returns the words of this text: at least one, which may be empty.
     pub fn of(text: &'a [u8]) -> Words<'a>
         ensures { result ≡ words_of text.entry.now }
     {
@@ -52,7 +52,7 @@ impl<'a> Words<'a> {
         }
     }
 
-    /// The word that is left alone.
+    /// Returns the word that is left, if it is the only one.
     pub fn sole(self) -> Option<&'a [u8]>
         ensures { option_copied result ≡ only_word self.entry }
     {

@@ -1,11 +1,11 @@
 -- Answers in numbers.
-use Rattle.std.specs.Prelude.{ℕ, pos, false, length, Option, is_some, unwrap_or}
+use Rattle.std.specs.Prelude.{ℕ, pos, false, length, is_some, unwrap_or}
 use Rattle.ft_path.specs.declared.errno.Errno.{Errno}
 use Rattle.ft_path.specs.declared.errno.Errno.TheVariants as errno
 use Rattle.ft_cells.specs.Attributes.{attributes_from}
-use Rattle.ft_cells.specs.declared.attributes.Attributes.{Attributes}
 use Rattle.ft_cells.specs.declared.attributes.Timestamp.{Timestamp}
 use Rattle.ft_cells.specs.declared.node.Kind.{Kind}
+use Rattle.ft_posix.specs.declared.call.FileInfo.{FileInfo}
 use Rattle.ft_posix.specs.declared.call.Reply.{Reply}
 use Rattle.ft_posix.specs.declared.call.Reply.TheVariants.{Done, Names, Number, Bytes, Info, Failed}
 use Rattle.ft_core.specs.declared.fault.Fault.{Fault}
@@ -96,21 +96,24 @@ epoch = record { seconds = pos 0; nanoseconds = 0 }
 
 -- the answer of `stat`: the attributes even if they are those that one has anyway, and whether
 -- there is a time
-abbrev pub told_of_info : ℕ → Kind → ℕ → ℕ → ℕ → Attributes → Option Timestamp → NuzAnswer
-told_of_info stamp kind number links size attributes time = record {
-  code = 0;
-  kind = kind_number kind;
-  stamp = stamp;
-  number = number;
-  links = links;
-  size = size;
-  mode = attributes.mode;
-  owner = attributes.owner;
-  group = attributes.group;
-  has_time = is_some time;
-  seconds = (unwrap_or time epoch).seconds;
-  nanoseconds = (unwrap_or time epoch).nanoseconds;
-}
+abbrev pub told_of_info : ℕ → FileInfo → NuzAnswer
+told_of_info stamp info =
+    let attributes = attributes_from info.kind info.attributes in
+    let time = unwrap_or info.time epoch in
+    record {
+      code = 0;
+      kind = kind_number info.kind;
+      stamp = stamp;
+      number = info.number;
+      links = info.links;
+      size = info.size;
+      mode = attributes.mode;
+      owner = attributes.owner;
+      group = attributes.group;
+      has_time = is_some info.time;
+      seconds = time.seconds;
+      nanoseconds = time.nanoseconds;
+    }
 
 -- a reply: its stamp, and code 0 with a number, with how many names there are and how many bytes
 -- those have as C has them, with how many bytes there are, or with the answer of `stat`; or the
@@ -120,7 +123,7 @@ told_of_reply stamp Done = told 0 stamp 0
 told_of_reply stamp (Names names) = told_of_none 0 0 stamp (length names) (size_of (listing names))
 told_of_reply stamp (Number number) = told 0 stamp number
 told_of_reply stamp (Bytes bytes) = told 0 stamp (length bytes)
-told_of_reply stamp (Info kind number links size attributes time) = told_of_info stamp kind number links size (attributes_from kind attributes) time
+told_of_reply stamp (Info info) = told_of_info stamp info
 told_of_reply stamp (Failed errno) = told (errno_number errno) stamp 0
 
 -- an answer: the code 1100 says that the call waits, and the number for how many transactions

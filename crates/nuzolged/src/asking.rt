@@ -141,7 +141,7 @@ pub(crate) fn mode_of(bits: u32) -> u16
     bits.min(MOST_MODE as u32 + 1) as u16
 }
 
-/// A copy of at most so many of these bytes.
+/// Returns a copy of at most so many of these bytes.
 pub(crate) fn bytes_of(alloc: Global, bytes: &[u8], most: u64) -> Result<Sequence<u8>, Memory>
     ensures { IfOk result (λ kept. kept ≡ take most bytes.now) }
 {
@@ -186,7 +186,7 @@ pub(crate) fn most_at(limits: TreeLimits, off: i64) -> u64
     limits.file_size.saturating_sub(off.unsigned_abs()).max(1)
 }
 
-/// The owner, the group or the mode of a number, if one is given.
+/// Returns the owner, the group or the mode of a number, if one is given.
 pub(crate) fn given_of(number: u32) -> Option<u32>
     ensures { result ≡ given_of number }
 {

@@ -25,7 +25,7 @@ impl Model for Handle {
 }
 
 impl Handle {
-    /// A closed handle.
+    /// Returns a closed handle.
     pub(crate) fn closed(alloc: Global) -> Handle
         ensures { result.session ≡ None }
     {
@@ -35,7 +35,7 @@ impl Handle {
         }
     }
 
-    /// A handle of a session.
+    /// Returns a handle of a session.
     fn of(loose: RawBox<Session, Global>) -> Handle
         ensures { result.session ≡ Some loose.value }
     {

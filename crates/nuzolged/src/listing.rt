@@ -20,7 +20,7 @@ pub(crate) fn copy_listing(names: &[(Name, Kind)], buffer: &mut [u8]) -> usize
     at
 }
 
-/// How many bytes names have so.
+/// Returns how many bytes the names have in this form.
 pub(crate) fn listing_size(names: &[(Name, Kind)]) -> u64
     ensures { result ≡ size_of (listing names.now) }
 {

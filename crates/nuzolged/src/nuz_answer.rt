@@ -1,10 +1,10 @@
 // Answers in numbers.
 ghost use Rattle.std.specs.Prelude.{◌≡◌};
 ghost use Rattle.nuzolged.specs.Listing.{kind_number};
-ghost use Rattle.nuzolged.specs.Numbers.{told, told_of, told_of_answer, told_of_reply, told_name, told_size, errno_number, fault_number};
+ghost use Rattle.nuzolged.specs.Numbers.{told, told_of, told_of_answer, told_of_reply, told_of_info, told_name, told_size, errno_number, fault_number};
 
 use crate::listing::listing_size;
-use ft_calls::Reply;
+use ft_calls::{FileInfo, Reply};
 use ft_core::{Answer, Fault};
 use ft_path::Errno;
 use ft_session::LastAnswer;
@@ -63,7 +63,7 @@ pub struct NuzAnswer {
 }
 
 impl NuzAnswer {
-    /// A code, a stamp and a number.
+    /// Returns an answer of a code, a stamp and a number.
     pub(crate) fn of(code: u32, stamp: u64, number: u64) -> NuzAnswer
         ensures { result ≡ told code stamp number }
     {
@@ -83,7 +83,7 @@ impl NuzAnswer {
         }
     }
 
-    /// That it is done, and how many bytes there are.
+    /// Returns the answer that it is done, with the number of bytes.
     pub(crate) fn of_size(size: usize) -> NuzAnswer
         ensures { result ≡ told_size size }
     {
@@ -141,35 +141,30 @@ fn told_of_reply(stamp: u64, reply: &Reply) -> NuzAnswer
         },
         Reply::Number(number) => NuzAnswer::of(0, stamp, *number),
         Reply::Bytes(bytes) => NuzAnswer::of(0, stamp, bytes.len() as u64),
-        Reply::Info {
-            kind,
-            number,
-            links,
-            size,
-            attributes,
-            time,
-        } => {
-            let Attributes { mode, owner, group } = attributes.unwrap_or(Attributes::of(*kind));
-            let Timestamp {
-                seconds,
-                nanoseconds,
-            } = time.unwrap_or(EPOCH);
-            NuzAnswer {
-                code: 0,
-                kind: kind_number(*kind),
-                stamp,
-                number: *number,
-                links: *links,
-                size: *size,
-                mode: mode as u32,
-                owner,
-                group,
-                has_time: time.is_some(),
-                seconds,
-                nanoseconds,
-            }
-        }
+        Reply::Info(info) => told_of_info(stamp, *info),
         Reply::Failed(errno) => NuzAnswer::of(errno_number(*errno), stamp, 0),
+    }
+}
+
+/// Returns the answer of `stat` in numbers.
+fn told_of_info(stamp: u64, info: FileInfo) -> NuzAnswer
+    ensures { result ≡ told_of_info stamp info }
+{
+    let attributes = info.attributes.unwrap_or(Attributes::of(info.kind));
+    let time = info.time.unwrap_or(EPOCH);
+    NuzAnswer {
+        code: 0,
+        kind: kind_number(info.kind),
+        stamp,
+        number: info.number,
+        links: info.links,
+        size: info.size,
+        mode: attributes.mode as u32,
+        owner: attributes.owner,
+        group: attributes.group,
+        has_time: info.time.is_some(),
+        seconds: time.seconds,
+        nanoseconds: time.nanoseconds,
     }
 }
 

@@ -32,7 +32,7 @@ pub extern "C" fn nuz_name(
     tell(alloc, tree, told, answer)
 }
 
-/// A transaction for which the last call waits, counted from 0.
+/// Returns a transaction for which the last call waits, counted from 0.
 #[unsafe(no_mangle)]
 pub extern "C" fn nuz_blocker(
     alloc: Global,

@@ -34,7 +34,7 @@ impl TreePointer {
         }
     }
 
-    /// The pointer of a handle.
+    /// Returns the pointer of a handle.
     fn of(loose: RawBox<Handle, Global>) -> TreePointer
         ensures { result.tree ≡ Some loose.value }
     {
@@ -59,7 +59,7 @@ impl TreePointer {
         })
     }
 
-    /// The pointer of a handle in a box.
+    /// Returns the pointer of a handle in a box.
     pub(crate) fn to(handle: Box<Handle>) -> TreePointer
         ensures { result.tree ≡ Some handle.value }
     {

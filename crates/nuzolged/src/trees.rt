@@ -12,10 +12,10 @@ use ft_core::{Core, Fault, Limits as CoreLimits, Rule};
 use ft_session::Session;
 use std::alloc::Global;
 
-/// The option by which calls wait behind older asks.
+/// The option by which calls wait in turn for older asks.
 const FAIR: u32 = 2;
 
-/// The version of the library: a million for each major one, a thousand for each minor one.
+/// Returns the version of the library: a million for each major one, a thousand for each minor one.
 #[unsafe(no_mangle)]
 pub extern "C" fn nuz_version() -> u32
     ensures { result ≡ 1000 }
@@ -24,7 +24,7 @@ pub extern "C" fn nuz_version() -> u32
 }
 
 /// Opens a tree: only the root, and no transaction. `options` is 0 for the rule of this project and
-/// 1 for Moss's; with 2 more, calls wait behind older asks. Its limits are the greatest.
+/// 1 for Moss's; with 2 more, calls wait in turn for older asks. Its limits are the greatest.
 ///
 /// Returns 0; 1001 if there is not enough memory; 1201 if there are no such options. Unless it
 /// returns 0, the pointer is null.
@@ -64,7 +64,7 @@ pub extern "C" fn nuz_tree_seed(alloc: Global, tree: &mut Handle, seed: u64)
     }
 }
 
-/// Sets whether calls of a tree wait behind older asks from here on. A closed handle stays so.
+/// Sets whether calls of a tree wait in turn for older asks from here on. A closed handle stays so.
 #[unsafe(no_mangle)]
 pub extern "C" fn nuz_tree_fair(alloc: Global, tree: &mut Handle, is_fair: bool)
     ensures { tree.new.session ≡ option_map (with_fair is_fair) tree.old.session }
@@ -128,7 +128,7 @@ fn rule_of(number: u32) -> Option<Rule>
     }
 }
 
-/// Returns whether this number requests that calls queue behind older asks.
+/// Returns whether this number requests that calls wait in turn for older asks.
 fn fair_of(number: u32) -> bool
     ensures { result ≡ fair_of number }
 {

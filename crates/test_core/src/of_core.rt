@@ -104,7 +104,7 @@ fn abort_in_log_order(rt: HostRuntime) -> Result<(), Fail> {
 }
 
 /// Carries a script out on a new core, and returns whether each line is answered as it says, so
-/// many events stand then, and the tree holds only the root.
+/// many events are standing then, and the tree holds only the root.
 fn walks_back(alloc: Global, script: &[(Line, Wanted)], events: usize) -> Result<bool, Fail> {
     let mut core = Recorded::new(alloc)?;
     let is_played = plays(alloc, &mut core, script)?;
@@ -257,7 +257,7 @@ fn sweep_counts_places(rt: HostRuntime) -> Result<(), Fail> {
     Ok(())
 }
 
-/// Returns whether one transaction waits for another alone, and is its parent, as the only ones.
+/// Returns whether one transaction waits only for another, and is its parent, as the only ones.
 fn waits_for_its_child(core: &Core, parent: u64, child: u64) -> Result<bool, Fail> {
     let (parent, child) = (TxnId(parent), TxnId(child));
     let pending = core.pending()?;
@@ -269,7 +269,7 @@ fn waits_for_its_child(core: &Core, parent: u64, child: u64) -> Result<bool, Fai
     Ok(waits && children.as_slice() == [LiveChild { parent, child }].as_slice())
 }
 
-/// Returns whether transaction 3 waits for 4 alone after a script, and is its parent.
+/// Returns whether transaction 3 waits only for 4 after a script, and is its parent.
 fn leaves_waiting(alloc: Global, script: &[(Line, Wanted)]) -> Result<bool, Fail> {
     let mut core = Core::new(alloc)?;
     Ok(plays(alloc, &mut core, script)? && waits_for_its_child(&core, 3, 4)?)
@@ -368,7 +368,7 @@ fn is_at_base(core: &Recorded) -> Result<bool, Fail> {
 }
 
 /// Carries a script out on a new core of this rule, and returns whether each line is answered as it
-/// says, and the core then stands at its base, by the same rule.
+/// says, and the core is then at its base, by the same rule.
 fn ends_at_base(alloc: Global, rule: Rule, script: &[(Line, Wanted)]) -> Result<bool, Fail> {
     let mut core = Recorded::with_rule(alloc, rule)?;
     Ok(plays(alloc, &mut core, script)? && is_at_base(&core)? && core.rule() == rule)

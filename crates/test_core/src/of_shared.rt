@@ -224,7 +224,7 @@ fn ends_are_swept(rt: HostRuntime) -> Result<(), Fail> {
     Ok(())
 }
 
-/// A transaction that makes a directory, and a subtransaction, by the trait alone.
+/// Makes a call in a transaction, and aborts a subtransaction of it, only by the trait.
 fn manage<R: Wait + Clock, M: Manager>(rt: &R, manager: &M, call: &Call) -> Result<(), Fault> {
     let top = manager.begin(rt)?;
     let below = manager.sub(rt, top)?;

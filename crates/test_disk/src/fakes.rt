@@ -238,7 +238,7 @@ pub struct FakeTarget {
     root: Option<Attributes>,
 }
 
-/// What was made at a path.
+/// A thing that was made at a path.
 #[derive(Drop)]
 struct Made {
     path: Vec<u8>,

@@ -4,7 +4,7 @@ use crate::fakes::{FakeSource, Held, Row};
 use ft_cells::{Attributes, Timestamp};
 use ft_copy::{CopyFault, CopyStop, Given};
 use ft_core::Limits;
-use ft_load::{load, needs_of};
+use ft_load::{Form, Spelling, load, needs_of};
 use std::alloc::Global;
 use std::cell::Cell;
 use std::test::Fail;
@@ -129,6 +129,14 @@ const CALLS: u64 = 18;
 
 const CALLS_WITH_LINKS: u64 = 19;
 
+/// The form of a script with numbers, for a core with the default limits.
+pub fn default_form() -> Form<'static> {
+    Form {
+        limits: Limits::default(),
+        spelling: Spelling::with_numbers(),
+    }
+}
+
 /// Loads a tree in so many turns, and puts its script after a text.
 fn load_in(
     alloc: Global,
@@ -144,7 +152,7 @@ fn load_in(
         skipped,
         turns: &turns,
     };
-    let (_, loaded) = load(alloc, Limits::default(), false, &source, text);
+    let (_, loaded) = load(alloc, default_form(), false, &source, text);
     loaded
 }
 
@@ -216,7 +224,7 @@ fn load_amid(alloc: Global, meanwhile: &[Row<'_>], text: &mut Vec<u8>) -> Result
         skipped: b"".as_slice(),
         turns: &turns,
     };
-    let (_, loaded) = load(alloc, Limits::default(), false, &source, text);
+    let (_, loaded) = load(alloc, default_form(), false, &source, text);
     loaded
 }
 
@@ -245,8 +253,13 @@ fn what_was_found_is_read(rt: HostRuntime) -> Result<(), Fail> {
     Ok(())
 }
 
-/// The script of a tree, with set-id bits or without.
-fn script_of(alloc: Global, rows: &[Row<'_>], set_id: bool) -> Option<Vec<u8>> {
+/// The script of a tree in this spelling, with set-id bits or without.
+fn script_of(
+    alloc: Global,
+    rows: &[Row<'_>],
+    set_id: bool,
+    spelling: Spelling<'_>,
+) -> Option<Vec<u8>> {
     let turns = Cell::new(ALL);
     let source = FakeSource {
         alloc,
@@ -255,8 +268,9 @@ fn script_of(alloc: Global, rows: &[Row<'_>], set_id: bool) -> Option<Vec<u8>> {
         skipped: b"".as_slice(),
         turns: &turns,
     };
-    let needs = needs_of(alloc, Limits::default(), set_id, &source).ok()?;
-    let (text, loaded) = load(alloc, needs, set_id, &source, Vec::new(alloc));
+    let limits = needs_of(alloc, Limits::default(), set_id, spelling, &source).ok()?;
+    let form = Form { limits, spelling };
+    let (text, loaded) = load(alloc, form, set_id, &source, Vec::new(alloc));
     loaded.is_ok().then_some(text)
 }
 
@@ -267,11 +281,90 @@ fn modes_owners_and_times_as_script(rt: HostRuntime) -> Result<(), Fail> {
         (true, SCRIPT_WITH_ATTRIBUTES),
         (false, SCRIPT_WITHOUT_SET_ID),
     ] {
-        let text = script_of(alloc, WITH_ATTRIBUTES, set_id);
+        let text = script_of(alloc, WITH_ATTRIBUTES, set_id, Spelling::with_numbers());
         assert!(rt;
             text.is_some_and(|text| text.as_slice() == script.as_bytes()),
             "{set_id}"
         );
+    }
+    Ok(())
+}
+
+/// The script that makes the rows of `WITH_ATTRIBUTES` below a directory, without set-id bits, with
+/// names.
+const SCRIPT_BELOW: &str = "begin as load\nload mkdir /s%20x/y\nload mkdir 0555 /s%20x/y/d\n\
+        load open wcx=0755 /s%20x/y/d/run as file\nload fchown file 0 7\nload write file x\n\
+        load close file\nload open wcx=0755 /s%20x/y/s as file\nload fchown file 1000 0\n\
+        load futime file -1 5\nload close file\nload chmod 1751 /s%20x/y\n\
+        load chown 5 6 /s%20x/y\ncommit load\n";
+
+/// The script that makes the rows of `WITH_LINKS` in the root, with names. It sets what the root is
+/// given, since the core need not be new.
+const SCRIPT_WITH_NAMES: &str =
+    "begin as load\nload mkdir /d\nload open wcx /d/f as file\nload write file x\n\
+        load close file\nload mkdir /d-\nload symlink d /0\nload symlink /etc/pass%20wd /d/e\n\
+        load link /0 /d/g\nload symlink loop /d-/loop\nload symlink ..//no%FFne%25/ /e\n\
+        load chmod 0755 /\nload chown 0 0 /\ncommit load\n";
+
+#[test]
+fn script_with_names(rt: HostRuntime) -> Result<(), Fail> {
+    let alloc = rt.alloc();
+    for (rows, path, script) in [
+        (WITH_ATTRIBUTES, b"/s x/y".as_slice(), SCRIPT_BELOW),
+        (WITH_ATTRIBUTES, b"/s x/y//".as_slice(), SCRIPT_BELOW),
+        (WITH_LINKS, b"/".as_slice(), SCRIPT_WITH_NAMES),
+        (WITH_LINKS, b"//".as_slice(), SCRIPT_WITH_NAMES),
+    ] {
+        let text = script_of(alloc, rows, false, Spelling::with_names(path));
+        assert!(rt;
+            text.is_some_and(|text| text.as_slice() == script.as_bytes()),
+            "{path:?}"
+        );
+    }
+    Ok(())
+}
+
+/// Returns whether a directory with a path of so many bytes is loaded below one with three.
+fn is_short_enough_below(alloc: Global, length: usize) -> Result<bool, Fail> {
+    let path = long_path(alloc, length)?;
+    let rows = rows_to(alloc, path.as_slice())?;
+    let below = Spelling::with_names(b"/ab".as_slice());
+    Ok(script_of(alloc, rows.as_slice(), false, below).is_some())
+}
+
+#[test]
+fn longest_path_below(rt: HostRuntime) -> Result<(), Fail> {
+    let alloc = rt.alloc();
+    assert!(rt; is_short_enough_below(alloc, 4_092)? && !is_short_enough_below(alloc, 4_093)?);
+    Ok(())
+}
+
+/// How many calls a script of one directory and of a root with attributes may have, if none is
+/// refused for it.
+const CALLS_BELOW: u64 = 4;
+
+#[test]
+fn calls_below_are_counted(rt: HostRuntime) -> Result<(), Fail> {
+    let alloc = rt.alloc();
+    let rows = [
+        (b"".as_slice(), Held::Owned(ROOT)),
+        (b"/d".as_slice(), Held::Folder),
+    ];
+    let turns = Cell::new(ALL);
+    let source = FakeSource {
+        alloc,
+        rows: rows.as_slice(),
+        meanwhile: &[],
+        skipped: b"".as_slice(),
+        turns: &turns,
+    };
+    let spelling = Spelling::with_names(b"/s".as_slice());
+    for calls in 0..CALLS_BELOW + 1 {
+        let mut limits = Limits::default();
+        limits.calls = calls;
+        let form = Form { limits, spelling };
+        let (_, loaded) = load(alloc, form, false, &source, Vec::new(alloc));
+        assert_eq!(rt; loaded.is_ok(), calls == CALLS_BELOW, "with {calls}");
     }
     Ok(())
 }
@@ -359,10 +452,12 @@ fn begins_with(alloc: Global, size: usize, most: Limits, line: &str) -> Result<b
         skipped: b"".as_slice(),
         turns: &turns,
     };
-    let Ok(needs) = needs_of(alloc, most, false, &source) else {
+    let spelling = Spelling::with_numbers();
+    let Ok(limits) = needs_of(alloc, most, false, spelling, &source) else {
         return Ok(false);
     };
-    let (text, loaded) = load(alloc, needs, false, &source, Vec::new(alloc));
+    let form = Form { limits, spelling };
+    let (text, loaded) = load(alloc, form, false, &source, Vec::new(alloc));
     Ok(loaded.is_ok() && text.as_slice().starts_with(line.as_bytes()))
 }
 

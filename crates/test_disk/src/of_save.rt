@@ -9,6 +9,7 @@ use ft_copy::{CopyFault, CopyLimits};
 use ft_core::Core;
 use ft_save::{SaveFault, save};
 use ft_script::play;
+use ft_transfer::NoFiles;
 use std::alloc::Global;
 use std::test::Fail;
 
@@ -307,7 +308,13 @@ fn replies_to_load(alloc: Global, script: &str) -> Result<Vec<u8>, Fail> {
     let script = format!(in alloc; "{script}tree\n")?;
     let mut core = Core::new(alloc)?;
     let mut replies = Vec::new(alloc);
-    play(alloc, &mut script.as_bytes(), &mut replies, &mut core)?;
+    play(
+        alloc,
+        &mut script.as_bytes(),
+        &mut replies,
+        &NoFiles,
+        &mut core,
+    )?;
     Ok(replies)
 }
 

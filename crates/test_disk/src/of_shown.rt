@@ -1,10 +1,9 @@
 // The output on a screen while a tree is loaded or saved. (The line that reports a fault:
 // hostile/round.)
 use crate::fakes::{FakeClock, FakeSource, FakeTarget, Row};
-use crate::of_load::{TREE, WITH_SPECIAL};
+use crate::of_load::{TREE, WITH_SPECIAL, default_form};
 use crate::of_save::{REPLIES, default_limits};
 use ft_copy::{CopyFault, CopyStop};
-use ft_core::Limits;
 use ft_load::load;
 use ft_save::{SaveFault, save};
 use ft_screen::{ShownSource, ShownTarget};
@@ -29,7 +28,7 @@ fn load_shown(
         turns: &turns,
     };
     let shown = ShownSource::new(&clock, alloc, &source, Some(screen));
-    let (_, loaded) = load(alloc, Limits::default(), false, &shown, Vec::new(alloc));
+    let (_, loaded) = load(alloc, default_form(), false, &shown, Vec::new(alloc));
     shown.done();
     loaded
 }

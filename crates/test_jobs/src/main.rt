@@ -16,6 +16,8 @@ mod of_plan;
 mod of_progress;
 #[cfg(test)]
 mod of_script;
+#[cfg(test)]
+mod of_transfers;
 
 /// The tests are all that there is.
 fn main() {}

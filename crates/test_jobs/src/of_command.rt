@@ -71,12 +71,24 @@ fn is_load(alloc: Global, words: &[&str], folder: &str, asked: (bool, bool, bool
     match choose(alloc, words) {
         Choice::Load {
             dir,
+            at: None,
             skip,
             check: false,
             set_id,
             quiet,
             limits: _,
         } => dir.as_str() == folder && (skip, set_id, quiet) == asked,
+        _ => false,
+    }
+}
+
+/// Returns whether they request a script of a directory for this directory of the tree.
+fn is_load_at(alloc: Global, words: &[&str], path: &[u8]) -> bool {
+    match choose(alloc, words) {
+        Choice::Load { at, .. } => match at {
+            Some(place) => place.as_bytes() == path,
+            None => false,
+        },
         _ => false,
     }
 }
@@ -190,6 +202,23 @@ fn choices_of_load(rt: HostRuntime) -> Result<(), Fail> {
     );
     assert!(rt; is_check(alloc, &["load", "src", "--check"], "src"));
     assert!(rt; is_usage(alloc, &["load"], "<DIR>"));
+    Ok(())
+}
+
+#[test]
+fn choices_of_load_at(rt: HostRuntime) -> Result<(), Fail> {
+    let alloc = rt.alloc();
+    assert!(rt; is_load_at(alloc, &["load", "src", "--at", "/a"], b"/a"));
+    assert!(rt; is_load_at(alloc, &["load", "--at=/", "src"], b"/"));
+    assert!(rt; is_load_at(alloc, &["load", "--at", "/a%20b/%25", "src"], b"/a b/%"));
+    for path in ["src", "", "a/b", "/a%00", "%"] {
+        let text = "for '--at <PATH>': it is no absolute path of the tree";
+        assert!(rt;
+            is_usage(alloc, &["load", "src", "--at", path], text),
+            "at {path}"
+        );
+    }
+    assert!(rt; is_usage(alloc, &["save", "out", "--at", "/a"], "'--at'"));
     Ok(())
 }
 

@@ -1,7 +1,7 @@
 // Plans run over a core behind a lock, and over managers that lie about it.
 ghost use Rattle.std.specs.Prelude.{◌≤◌};
 
-use ft_calls::{Call, Reply};
+use ft_calls::{Call, FileInfo, Reply};
 use ft_core::{Event, Fault, Outcome, TxnId};
 use ft_jobs::{End, Gate, JobFault, JobsOutcome, OpenGate, Pace, Plan, Report, run_jobs};
 use ft_path::Errno;
@@ -79,18 +79,15 @@ fn has_made(report: &Report) -> bool {
     let [made, told] = report.calls.as_slice() else {
         return false;
     };
-    let is_told = match &told.reply {
-        Reply::Info {
-            kind,
-            number,
-            links,
-            size,
-            attributes: None,
-            time: None,
-        } => *kind == Kind::Dir && *number == made.stamp && *links == 1 && *size == 0,
-        _ => false,
-    };
-    report.end == End::Committed && made.reply == Reply::Done && is_told
+    let info = Reply::Info(FileInfo {
+        kind: Kind::Dir,
+        number: made.stamp,
+        links: 1,
+        size: 0,
+        attributes: None,
+        time: None,
+    });
+    report.end == End::Committed && made.reply == Reply::Done && told.reply == info
 }
 
 /// Runs a plan with jobs that meet.

@@ -2,6 +2,7 @@
 // most reads take. Scripts are case files, which the built program plays.
 use ft_core::Core;
 use ft_script::{LONGEST_LINE, MOST_READS, PlayFault, play};
+use ft_transfer::NoFiles;
 use std::alloc::Global;
 use std::cell::Cell;
 use std::io;
@@ -158,7 +159,7 @@ fn played_on<R: Read, W: Write>(
     writer: &mut W,
     core: &mut Core,
 ) -> Result<End, Fail> {
-    let end = play(alloc, reader, writer, core);
+    let end = play(alloc, reader, writer, &NoFiles, core);
     Ok((end, core.begin()?.0))
 }
 
@@ -188,6 +189,7 @@ fn is_swept(alloc: Global, script: &str) -> Result<bool, Fail> {
         alloc,
         &mut script.as_bytes(),
         &mut Vec::new(alloc),
+        &NoFiles,
         &mut core,
     )?;
     Ok(core.sweep() == 0)

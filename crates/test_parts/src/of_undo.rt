@@ -156,24 +156,12 @@ fn is_reply(reply: &Reply, wanted: ReplyRef) -> bool {
         (Reply::Done, ReplyRef::Done) => true,
         (Reply::Number(number), ReplyRef::Number(wanted)) => *number == wanted,
         (Reply::Bytes(bytes), ReplyRef::Bytes(wanted)) => bytes.as_slice() == wanted,
-        (
-            Reply::Info {
-                kind,
-                number,
-                links,
-                size,
-                ..
-            },
-            ReplyRef::Info(wanted, file, count, length),
-        ) => *kind == wanted && *number == file && *links == count && *size == length,
-        (
-            Reply::Info {
-                attributes,
-                time,
-                ..
-            },
-            ReplyRef::Attributes(wanted, at),
-        ) => *attributes == wanted && *time == at,
+        (Reply::Info(info), ReplyRef::Info(kind, number, links, size)) => {
+            info.kind == kind && info.number == number && info.links == links && info.size == size
+        }
+        (Reply::Info(info), ReplyRef::Attributes(attributes, time)) => {
+            info.attributes == attributes && info.time == time
+        }
         (Reply::Failed(errno), ReplyRef::Failed(wanted)) => *errno == wanted,
         _ => false,
     }

@@ -183,13 +183,7 @@ fn are_names(names: &[(Name, Kind)], wanted: &[u8]) -> bool {
 /// Returns whether a reply describes such a thing, with this number, so many links and this size.
 fn is_info(reply: &Reply, wanted: Kind, numbers: [u64; 3]) -> bool {
     match reply {
-        Reply::Info {
-            kind,
-            number,
-            links,
-            size,
-            ..
-        } => *kind == wanted && [*number, *links, *size] == numbers,
+        Reply::Info(info) => info.kind == wanted && [info.number, info.links, info.size] == numbers,
         _ => false,
     }
 }
@@ -210,11 +204,7 @@ fn has_attributes(reply: &Reply, mode: Option<u16>, seconds: Option<i64>) -> boo
         group: 0,
     });
     match reply {
-        Reply::Info {
-            attributes,
-            time,
-            ..
-        } => *attributes == wanted && *time == seconds.map(of_seconds),
+        Reply::Info(info) => info.attributes == wanted && info.time == seconds.map(of_seconds),
         _ => false,
     }
 }

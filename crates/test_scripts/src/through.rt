@@ -1,17 +1,17 @@
 // The requests of a script, to a core behind a lock.
 use crate::scripts::Answers;
 use ft_core::{Answer, Fault, Request};
-use ft_shared::{Shared, Sharing};
+use ft_shared::{Shareable, Shared, Sharing};
 use std::sync::Wait;
 
 /// Requests through a lock.
 #[derive(Drop)]
-pub struct Through<'a, J: Sharing, R: Wait> {
+pub struct Through<'a, J: Sharing, C: Shareable, R: Wait> {
     pub rt: &'a R,
-    pub shared: &'a Shared<J>,
+    pub shared: &'a Shared<J, C>,
 }
 
-impl<'a, J: Sharing, R: Wait> Answers for Through<'a, J, R> {
+impl<'a, J: Sharing, C: Shareable, R: Wait> Answers for Through<'a, J, C, R> {
     fn answer_to(&mut self, request: Request) -> Answer {
         let (rt, shared) = (self.rt, self.shared);
         let answer = match request {

@@ -12,7 +12,7 @@ use std::thread::Threads;
 use std::time::Clock;
 use test_scripts::new_shared;
 
-/// Two jobs side by side, of which the first has a subjob, and the subjob alone asks for a stat.
+/// Two jobs side by side, of which the first has a subjob, and only the subjob asks for a stat.
 const ABORTED: &[u8] =
     b"job a\nmkdir /a\nsubs\ncommit\njob a1 a\nmkdir /a/p\nstat /a/p\ncommit\njob b\n\
         mkdir /b\ncommit";

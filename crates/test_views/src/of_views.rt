@@ -4,7 +4,7 @@ ghost use Rattle.std.specs.Prelude.{◌≡◌};
 ghost use Rattle.ft_shared.specs.Opening.{named_by};
 
 use crate::of_serial::{is_serial, replays_from_new};
-use ft_calls::{Call, Reply};
+use ft_calls::{Call, FileInfo, Reply};
 use ft_core::{Fault, TxnId};
 use ft_path::{Errno, FilePath};
 use ft_record::Recorded;
@@ -171,14 +171,14 @@ impl Steps for LearntByAnother {
         let mut another = reader.again()?;
         another.learn(receipt);
         let listed = lists(&mut another, &path, 3, b"b".as_slice());
-        let info = Reply::Info {
+        let info = Reply::Info(FileInfo {
             kind: Kind::Dir,
             number: 2,
             links: 1,
             size: 0,
             attributes: None,
             time: None,
-        };
+        });
         let told = another.stat(&path) == Ok((3, info));
         let read = another.read_file(&path) == Ok((3, Reply::Failed(Errno::EISDIR)));
         Ok(played && listed && told && read)

@@ -1,7 +1,7 @@
 //! The program `tool_refusals`: it makes directories through a lock, each in a transaction of its
 //! own, publishes each, and counts what a reader sees then; and it makes requests to a core. Each
 //! refusal is printed, and its request is made once more. A request that was refused and has
-//! changed something ends it. With all the memory that it asks for nothing is refused; it is there
+//! changed something ends it. With all the memory that it needs, nothing is refused; it is there
 //! to be run with each of its allocations refused in turn.
 #![tactic(auto)]
 

@@ -1,8 +1,9 @@
 // A script, played through a lock.
 use crate::locked::{execute, new_shared};
 use anyhow::Result;
-use ft_core::Core;
-use ft_line::{AnswerText, Query, ScriptLine, WaitsText, parse_line, reply_to};
+use ft_core::{Answer, Core, Request};
+use ft_line::{AnswerText, Query, ScriptLine, WaitsText, reply_to};
+use ft_names::{LineMeaning, NamedLine, Names, named_line};
 use ft_script::write_out;
 use ft_shared::Shared;
 use std::alloc::Global;
@@ -38,9 +39,10 @@ fn play_through<R: Wait, W: Write>(
     writer: &mut W,
 ) -> Result<()> {
     let lines: Vec<&[u8]> = script.split(|byte| *byte == b'\n').collect(alloc)?;
+    let mut names = Names::new(alloc);
     for (place, line) in lines.iter().enumerate() {
         let before = &lines.as_slice()[..place];
-        let reply = reply_through(rt, alloc, shared, before, line)?;
+        let reply = reply_through(rt, alloc, shared, &mut names, before, line)?;
         write_out(writer, reply.as_bytes())?;
     }
     Ok(())
@@ -51,22 +53,41 @@ fn reply_through<R: Wait>(
     rt: &R,
     alloc: Global,
     shared: &Shared<Brand, Core>,
+    names: &mut Names,
     before: &[&[u8]],
     line: &[u8],
 ) -> Result<String> {
-    match parse_line(alloc, line)? {
-        ScriptLine::Request(request) => {
-            let answer = execute(rt, shared, request)?;
+    let NamedLine { meaning, given } = named_line(alloc, line, names)?;
+    match meaning {
+        LineMeaning::Line(ScriptLine::Request(request)) => {
+            let answer = execute_named(rt, alloc, shared, names, request, given)?;
             Ok(format!(in alloc; "{}\n", AnswerText(&answer))?)
         }
-        ScriptLine::Query(Query::Waits) => waits_reply(rt, alloc, shared),
-        ScriptLine::Query(Query::Tree | Query::Locks | Query::Attributes) => {
+        LineMeaning::Line(ScriptLine::Query(Query::Waits)) => waits_reply(rt, alloc, shared),
+        LineMeaning::Line(ScriptLine::Query(Query::Tree | Query::Locks | Query::Attributes)) => {
             let mut core = core_after(rt, alloc, before)?;
             Ok(reply_to(alloc, line, &mut core)?)
         }
-        // These are the same on any core.
-        ScriptLine::Silent | ScriptLine::Bad => Ok(reply_to(alloc, line, &mut Core::new(alloc)?)?),
+        // These are the same on any core. (A transfer is a bad line, since there are no files.)
+        LineMeaning::Line(ScriptLine::Silent | ScriptLine::Bad) | LineMeaning::Transfer(_) => {
+            Ok(reply_to(alloc, line, &mut Core::new(alloc)?)?)
+        }
     }
+}
+
+/// Carries out a request through the lock, and gives the name, if there is one, to its answer.
+fn execute_named<R: Wait>(
+    rt: &R,
+    alloc: Global,
+    shared: &Shared<Brand, Core>,
+    names: &mut Names,
+    request: Request,
+    given: Option<&[u8]>,
+) -> Result<Answer> {
+    names.reserve(alloc, given)?;
+    let answer = execute(rt, shared, request)?;
+    names.give(given, &answer);
+    Ok(answer)
 }
 
 /// The waits-for edges behind the lock.
@@ -79,7 +100,7 @@ fn waits_reply<R: Wait>(rt: &R, alloc: Global, shared: &Shared<Brand, Core>) -> 
     Ok(format!(in alloc; "{text}\n")?)
 }
 
-/// A core that has come to the end of these lines through a lock of its own. While a core stands
+/// A core that has come to the end of these lines through a lock of its own. While a core is
 /// behind a lock, neither its tree nor its locks can be read, so they are read from this one.
 fn core_after<R: Wait>(rt: &R, alloc: Global, lines: &[&[u8]]) -> Result<Core> {
     let shared = new_shared(alloc)?;
@@ -96,10 +117,27 @@ fn carry_out_all<R: Wait>(
     shared: &Shared<Brand, Core>,
     lines: &[&[u8]],
 ) -> Result<()> {
+    let mut names = Names::new(alloc);
     for line in lines {
-        if let ScriptLine::Request(request) = parse_line(alloc, line)? {
-            execute(rt, shared, request)?;
-        }
+        carry_out(rt, alloc, shared, &mut names, line)?;
     }
     Ok(())
+}
+
+/// Carries out the request of a line through the lock, if it is one.
+fn carry_out<R: Wait>(
+    rt: &R,
+    alloc: Global,
+    shared: &Shared<Brand, Core>,
+    names: &mut Names,
+    line: &[u8],
+) -> Result<()> {
+    let NamedLine { meaning, given } = named_line(alloc, line, names)?;
+    match meaning {
+        LineMeaning::Line(ScriptLine::Request(request)) => {
+            execute_named(rt, alloc, shared, names, request, given)?;
+            Ok(())
+        }
+        LineMeaning::Line(_) | LineMeaning::Transfer(_) => Ok(()),
+    }
 }

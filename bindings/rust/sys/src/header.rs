@@ -262,7 +262,7 @@ extern "C" {
     /// for each transaction whose waiting call is older and conflicts with it. So a call that writes is
     /// not passed by one reader after another. A call never waits in turn for the caller, for a
     /// transaction above or below it, or for one that waits for the caller, directly or through others.
-    /// If an older one comes to wait for the caller, the next `nuz_retry` of the caller no longer waits
+    /// If an older one begins to wait for the caller, the next `nuz_retry` of the caller no longer waits
     /// for that one. So to wait in turn closes no deadlock.
     ///
     /// A call is as old as its first request that had to wait. It stays so if its transaction retries it

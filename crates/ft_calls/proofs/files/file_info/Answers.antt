@@ -6,6 +6,7 @@ use Rattle.ft_cells.specs.declared.node.Kind.{Kind}
 use Rattle.ft_cells.specs.declared.node.Node.TheVariants.{File as FileNode}
 use Rattle.ft_cells.specs.Nodes.{kind_of_node}
 use Rattle.ft_cells.specs.Looks.{Looks, Answer, then}
+use Rattle.ft_posix.specs.declared.call.FileInfo.{FileInfo}
 use Rattle.ft_posix.specs.declared.call.Reply.TheVariants as reply
 use Rattle.ft_posix.specs.declared.intent.Intent.{Intent}
 use Rattle.ft_posix.specs.declared.intent.CallError.{CallError}
@@ -27,11 +28,12 @@ returns c =
     let time = c.in_ok-size.time in
     let attributes = c.in_ok-attributes.attributes in
     let new = c.attributes_at.new.look in
-    let tells : Result Intent CallError = Ok (record { told = Info c.kind.result file links size attributes time; edits = [] }) in
-    let on_attributes : ℕ → ℕ → Option Timestamp → Option Attributes → Looks Outcome = λ links size time attributes. Answer (told (reply.Info (kind_of_node (FileNode form file)) file links size attributes time)) in
+    let info : Kind → ℕ → ℕ → Option Timestamp → Option Attributes → FileInfo = λ kind links size time attributes. record { kind = kind; number = file; links = links; size = size; attributes = attributes; time = time } in
+    let tells : Result Intent CallError = Ok (record { told = Info (info c.kind.result links size time attributes); edits = [] }) in
+    let on_attributes : ℕ → ℕ → Option Timestamp → Option Attributes → Looks Outcome = λ links size time attributes. Answer (told (reply.Info (info (kind_of_node (FileNode form file)) links size time attributes))) in
     let on_size : ℕ → ℕ × Option Timestamp → Looks Outcome = λ links found. then (attributes_at form file) (on_attributes links found.0 found.1) in
     let on_links : ℕ → Looks Outcome = λ links. then (size_and_time_at file) (on_size links) in
     finds_then c.args.look.now (look_at (Links file)) on_links links c.links.new.self new tells c.in_ok-links.ensures.0 c.in_ok-links.ensures.1
     (finds_then c.links.new.self (size_and_time_at file) (on_size links) (size, time) c.size_and_time.new.self new tells c.in_ok-size.ensures.0 c.in_ok-size.ensures.1
     (finds_then c.size_and_time.new.self (attributes_at form file) (on_attributes links size time) attributes new new tells c.in_ok-attributes.ensures.0 c.in_ok-attributes.ensures.1
-    (ap (λ (kind : Kind). told (reply.Info kind file links size attributes time)) c.kind.ensures, refl)))
+    (ap (λ (kind : Kind). told (reply.Info (info kind links size time attributes))) c.kind.ensures, refl)))

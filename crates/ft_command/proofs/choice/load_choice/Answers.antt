@@ -10,7 +10,7 @@ returns-in-Some c =
     let check = flag_read found (codes "check") c.get_flag-check.result c.get_flag-check.ensures.none c.get_flag-check.ensures.value c.get_flag-check.ensures.other in
     let set_id = flag_read found (codes "set-id") c.get_flag-set_id.result c.get_flag-set_id.ensures.none c.get_flag-set_id.ensures.value c.get_flag-set_id.ensures.other in
     let quiet = flag_read found (codes "quiet") c.get_flag-quiet.result c.get_flag-quiet.ensures.none c.get_flag-quiet.ensures.value c.get_flag-quiet.ensures.other in
-    (rows_of found, refl, c.in-Some.ensures, skip, check, set_id, quiet, c.in-Ok.ensures.ok)
+    (rows_of found, refl, c.in-Some.ensures, c.in-Ok-asked_place.ensures.ok, skip, check, set_id, quiet, c.in-Ok.ensures.ok)
 
 pub returns-in-Err : goal.returns-in-Err
 returns-in-Err c = c.misused.ensures (codes "load") c.in-Err.ensures.err

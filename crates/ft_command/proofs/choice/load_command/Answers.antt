@@ -9,17 +9,19 @@ use Rattle.ft_command.proofs.choice.load_command.Goals as goal
 pub returns-clause-app : goal.returns-clause-app
 returns-clause-app c =
     let one_is = c.in_ok-arg.ensures.shape c.dir_arg.ensures.local ∙ ap₂ with_rule (ap app_of_fields c.about.ensures ∙ c.new.ensures.app) c.dir_arg.ensures.rule in
-    let two_is = c.in_ok-arg-2.ensures.shape c.skip_arg.ensures.local ∙ ap₂ with_rule one_is c.skip_arg.ensures.rule in
-    let three_is = c.in_ok-arg-3.ensures.shape c.check_arg.ensures.local ∙ ap₂ with_rule two_is c.check_arg.ensures.rule in
-    let four_is = c.in_ok-arg-4.ensures.shape c.set_id_arg.ensures.local ∙ ap₂ with_rule three_is c.set_id_arg.ensures.rule in
-    let all_is = c.in_ok-command.ensures.shape c.quiet_arg.ensures.local ∙ ap₂ with_rule four_is c.quiet_arg.ensures.rule in
+    let two_is = c.in_ok-arg-2.ensures.shape c.at_arg.ensures.local ∙ ap₂ with_rule one_is c.at_arg.ensures.rule in
+    let three_is = c.in_ok-arg-3.ensures.shape c.skip_arg.ensures.local ∙ ap₂ with_rule two_is c.skip_arg.ensures.rule in
+    let four_is = c.in_ok-arg-4.ensures.shape c.check_arg.ensures.local ∙ ap₂ with_rule three_is c.check_arg.ensures.rule in
+    let five_is = c.in_ok-arg-5.ensures.shape c.set_id_arg.ensures.local ∙ ap₂ with_rule four_is c.set_id_arg.ensures.rule in
+    let all_is = c.in_ok-command.ensures.shape c.quiet_arg.ensures.local ∙ ap₂ with_rule five_is c.quiet_arg.ensures.rule in
     IfOk-weaker c.with_limits.result _ _ (λ command h. h ∙ ap limited all_is) c.with_limits.ensures.app
 
 pub returns-clause-local : goal.returns-clause-local
 returns-clause-local c =
     let bare : (out-Command c.about.result).has_globals ≡ false = ap (λ f. f.has_globals) c.about.ensures ∙ c.new.ensures.local in
     let one = c.in_ok-arg.ensures.globals ∙ ap₂ (λ a b. a || b) bare c.dir_arg.ensures.local in
-    let two = c.in_ok-arg-2.ensures.globals ∙ ap₂ (λ a b. a || b) one c.skip_arg.ensures.local in
-    let three = c.in_ok-arg-3.ensures.globals ∙ ap₂ (λ a b. a || b) two c.check_arg.ensures.local in
-    let four = c.in_ok-arg-4.ensures.globals ∙ ap₂ (λ a b. a || b) three c.set_id_arg.ensures.local in
-    c.with_limits.ensures.local (c.in_ok-command.ensures.globals ∙ ap₂ (λ a b. a || b) four c.quiet_arg.ensures.local)
+    let two = c.in_ok-arg-2.ensures.globals ∙ ap₂ (λ a b. a || b) one c.at_arg.ensures.local in
+    let three = c.in_ok-arg-3.ensures.globals ∙ ap₂ (λ a b. a || b) two c.skip_arg.ensures.local in
+    let four = c.in_ok-arg-4.ensures.globals ∙ ap₂ (λ a b. a || b) three c.check_arg.ensures.local in
+    let five = c.in_ok-arg-5.ensures.globals ∙ ap₂ (λ a b. a || b) four c.set_id_arg.ensures.local in
+    c.with_limits.ensures.local (c.in_ok-command.ensures.globals ∙ ap₂ (λ a b. a || b) five c.quiet_arg.ensures.local)

@@ -2,7 +2,7 @@
 
 use std::{error, fmt, io};
 
-/// What kind of error it is.
+/// The kind of an error.
 #[derive(Debug)]
 pub enum VfsErrorKind {
     IoError(io::Error),

@@ -1,4 +1,4 @@
-//! Paths of a file system, and what it tells of them.
+//! Paths of a file system, and the facts that it returns of them.
 
 use crate::{FileSystem, VfsResult};
 use std::io::{Read, Seek, Write};

@@ -11,5 +11,5 @@ returns-in-Some-clause-err g c =
     let self = c.args.self.now in
     let old = g.W.Write.contents self.writer in
     let new = g.W.Write.contents c.ask.new.self.writer in
-    subst (λ (call : Option Call). IfErr c.ask.result (λ trouble. FailsToAskAll self.limits trouble (option_to_list call) self.next old new)) (sym c.in-Some.is)
-    (if_err c.ask.result (λ trouble failed. fails_one self.limits trouble c.in-Some.call self.next old new failed) c.ask.ensures.err)
+    subst (λ (call : Option Call). IfErr c.ask.result (λ trouble. FailsToAskAll self.form trouble (option_to_list call) self.next old new)) (sym c.in-Some.is)
+    (if_err c.ask.result (λ trouble failed. fails_one self.form trouble c.in-Some.call self.next old new failed) c.ask.ensures.err)

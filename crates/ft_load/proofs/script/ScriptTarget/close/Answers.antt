@@ -10,7 +10,7 @@ returns-in_err-ask_if-clause-err g c =
     let old = g.W.Write.contents self.writer in
     let new = g.W.Write.contents c.ask_if.new.self.writer in
     at_fault c.from_residual.result c.from_residual.ensures.1
-    (λ t is. time_breaks self.limits c.args.time c.futime_of.result self.next self.fd c.futime_of.ensures t _ old new is c.in_err-ask_if.ensures.err)
+    (λ t is. time_breaks self.form c.args.time c.futime_of.result self.next self.fd c.futime_of.ensures t _ old new is c.in_err-ask_if.ensures.err)
 
 pub returns-clause-ok : goal.returns-clause-ok
 returns-clause-ok g c =
@@ -20,9 +20,9 @@ returns-clause-ok g c =
     let new = g.W.Write.contents c.ask.new.self.writer in
     on_ok_weaker c.ask.result
     (λ closed. (
-      close_done self.limits c.args.time c.futime_of.result self.next self.fd c.futime_of.ensures c.ask_if.new.self.limits _ _ _ old middle new c.ask_if.ensures.limits (c.ask.ensures.fd ∙ c.ask_if.ensures.fd)
+      close_done self.form c.args.time c.futime_of.result self.next self.fd c.futime_of.ensures c.ask_if.new.self.form _ _ _ old middle new c.ask_if.ensures.form (c.ask.ensures.fd ∙ c.ask_if.ensures.fd)
           c.in_ok-ask_if.ensures.call closed,
-      c.ask.ensures.limits ∙ c.ask_if.ensures.limits,
+      c.ask.ensures.form ∙ c.ask_if.ensures.form,
     ))
     c.ask.ensures.call
 
@@ -33,5 +33,5 @@ returns-clause-err g c =
     let middle = g.W.Write.contents c.ask_if.new.self.writer in
     let new = g.W.Write.contents c.ask.new.self.writer in
     if_err c.ask.result
-    (λ t failed. close_breaks self.limits c.args.time c.futime_of.result self.next self.fd c.futime_of.ensures t c.ask_if.new.self.limits _ old middle new c.ask_if.ensures.limits c.in_ok-ask_if.ensures.call failed)
+    (λ t failed. close_breaks self.form c.args.time c.futime_of.result self.next self.fd c.futime_of.ensures t c.ask_if.new.self.form _ old middle new c.ask_if.ensures.form c.in_ok-ask_if.ensures.call failed)
     c.ask.ensures.err

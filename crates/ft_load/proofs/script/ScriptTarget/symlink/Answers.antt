@@ -1,13 +1,26 @@
 use Rattle.std.proofs.Common.{ap₂, None, refl}
+use Rattle.std.proofs.lemmas.Result.{on_ok_weaker}
 use Rattle.ft_copy.proofs.Stopping.{if_err}
 use Rattle.ft_copy.specs.Asked.{Symlink}
 use Rattle.ft_posix.specs.declared.call.Call.TheVariants as calls
-use Rattle.ft_load.proofs.Scripting.{first_breaks}
+use Rattle.ft_load.proofs.Scripting.{first_breaks, one_done}
 use Rattle.ft_load.proofs.script.ScriptTarget.symlink.Goals as goal
+
+pub returns-clause-ok : goal.returns-clause-ok
+returns-clause-ok g c =
+    let self = c.args.self.now in
+    let old = g.W.Write.contents self.writer in
+    let new = g.W.Write.contents c.ask.new.self.writer in
+    on_ok_weaker c.ask.result
+    (λ asked. (
+      one_done self.form (Symlink c.args.to.now c.args.path.now) self.next self.fd refl (λ _ _. ((c.in_ok-path_of.ensures.fits, c.in_ok-path_below.ensures.fits), tt)) _ _ (ap₂ calls.Symlink c.in_ok-path_of.ensures.ok c.in_ok-path_below.ensures.ok) refl refl _ _ old new c.ask.ensures.fd asked,
+      c.ask.ensures.form,
+    ))
+    c.ask.ensures.call
 
 pub returns-clause-err : goal.returns-clause-err
 returns-clause-err g c =
     let self = c.args.self.now in
     let old = g.W.Write.contents self.writer in
     let new = g.W.Write.contents c.ask.new.self.writer in
-    if_err c.ask.result (λ trouble failed. first_breaks self.limits (Symlink c.args.to.now c.args.path.now) self.next self.fd refl _ _ None None (ap₂ calls.Symlink c.in_ok-path_of.ensures.ok c.in_ok-path_of-2.ensures.ok) refl refl trouble trouble old new refl failed) c.ask.ensures.err
+    if_err c.ask.result (λ trouble failed. first_breaks self.form (Symlink c.args.to.now c.args.path.now) self.next self.fd refl (λ _ _. ((c.in_ok-path_of.ensures.fits, c.in_ok-path_below.ensures.fits), tt)) _ _ None None (ap₂ calls.Symlink c.in_ok-path_of.ensures.ok c.in_ok-path_below.ensures.ok) refl refl trouble trouble old new refl failed) c.ask.ensures.err

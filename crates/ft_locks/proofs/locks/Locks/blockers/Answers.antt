@@ -18,7 +18,7 @@ pub returns : goal.returns
 returns c = IfOk-weaker _ (λ owners. owners.items ≡ finite.keys c.loop-access.found) _
     (λ owners are. subst (λ ys. AreBlockers c.args.rule c.args.self.now c.args.forest.now c.args.txn c.args.accesses.now ys) (sym are)
     (subst (λ t. AreBlockers c.args.rule t c.args.forest.now c.args.txn c.args.accesses.now (finite.keys c.loop-access.found)) c.self.view_is
-    (blockers-gone c.self.inside.bulk_all c.self.inside.keeps_all c.self.inside.bulk (table_of c.self.inside.holdings.cells c.self.inside.holdings.lists) c.args.rule c.args.forest.now c.args.txn c.args.accesses.now (finite.keys c.loop-access.found)
+    (blockers-gone c.self.inside.bulk_keeps_all c.self.inside.keeps_all c.self.inside.bulk (table_of c.self.inside.holdings.cells c.self.inside.holdings.lists) c.args.rule c.args.forest.now c.args.txn c.args.accesses.now (finite.keys c.loop-access.found)
     (are_blockers c.args.rule c.args.forest.now c.args.txn (table_of c.self.inside.holdings.cells c.self.inside.holdings.lists) c.self.inside.holdings.cells c.self.inside.holdings.lists refl c.args.accesses.now c.loop-access.found
     (λ u. c.loop-access.invariant u ∙ ap (λ xs. list_any (λ a. blocks (against c.args.rule c.args.forest.now c.args.txn) c.self.inside.holdings.cells a u) xs)
     (take_all c.loop-access.access-index c.args.accesses.now c.loop-access-test.false))))))

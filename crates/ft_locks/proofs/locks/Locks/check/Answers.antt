@@ -61,7 +61,7 @@ pub returns-clause-blockers : goal.returns-clause-blockers
 returns-clause-blockers c =
     subst (λ ys. AreBlockers c.args.rule c.args.self.now c.args.forest.now c.args.txn c.args.accesses.now ys) (sym c.in_ok-blockers.ensures)
     (subst (λ t. AreBlockers c.args.rule t c.args.forest.now c.args.txn c.args.accesses.now (finite.keys c.loop-access.found)) c.self.view_is
-    (blockers-gone c.self.inside.bulk_all c.self.inside.keeps_all c.self.inside.bulk (table_of c.self.inside.holdings.cells c.self.inside.holdings.lists) c.args.rule c.args.forest.now c.args.txn c.args.accesses.now (finite.keys c.loop-access.found)
+    (blockers-gone c.self.inside.bulk_keeps_all c.self.inside.keeps_all c.self.inside.bulk (table_of c.self.inside.holdings.cells c.self.inside.holdings.lists) c.args.rule c.args.forest.now c.args.txn c.args.accesses.now (finite.keys c.loop-access.found)
     (are_blockers c.args.rule c.args.forest.now c.args.txn (table_of c.self.inside.holdings.cells c.self.inside.holdings.lists) c.self.inside.holdings.cells c.self.inside.holdings.lists refl c.args.accesses.now c.loop-access.found
     (λ u. c.loop-access.invariant.noted u ∙ ap (λ xs. list_any (λ a. blocks (against c.args.rule c.args.forest.now c.args.txn) c.self.inside.holdings.cells a u) xs)
     (take_all c.loop-access.access-index c.args.accesses.now c.loop-access-test.false)))))
@@ -72,7 +72,7 @@ returns-clause-held c =
     let t = (table_of c.self.inside.holdings.cells c.self.inside.holdings.lists) in
     subst (λ (u : LockTable). AreGranted u u c.args.txn xs) c.self.view_is
     (record {
-      given = seen-given c.self.inside.keeps_all c.self.inside.keeps_all (with_bulk c.self.inside.bulk_all c.self.inside.bulk t) (with_bulk c.self.inside.bulk_all c.self.inside.bulk t) c.args.txn xs
-          (granted-gone c.self.inside.bulk_all c.self.inside.bulk t t c.args.txn xs (held_granted t c.self.inside.holdings.cells c.self.inside.holdings.lists refl c.args.txn xs c.loop-access.invariant.held));
+      given = seen-given c.self.inside.keeps_all c.self.inside.keeps_all (with_bulk c.self.inside.bulk_keeps_all c.self.inside.bulk t) (with_bulk c.self.inside.bulk_keeps_all c.self.inside.bulk t) c.args.txn xs
+          (granted-gone c.self.inside.bulk_keeps_all c.self.inside.bulk t t c.args.txn xs (held_granted t c.self.inside.holdings.cells c.self.inside.holdings.lists refl c.args.txn xs c.loop-access.invariant.held));
       useless = λ d h. h;
     })

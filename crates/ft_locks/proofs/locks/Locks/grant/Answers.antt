@@ -21,13 +21,13 @@ give_locks-requires-clause-apart c = λ e.
 
 pub returns-in_err-give_locks-clause-err : goal.returns-in_err-give_locks-clause-err
 returns-in_err-give_locks-clause-err c = on_any c.from_residual.result _
-    (ap (λ t. seen_as c.self.inside.keeps_all (with_bulk c.self.inside.bulk_all c.self.inside.bulk t)) c.in_err-give_locks.ensures.err ∙ c.self.view_is)
+    (ap (λ t. seen_as c.self.inside.keeps_all (with_bulk c.self.inside.bulk_keeps_all c.self.inside.bulk t)) c.in_err-give_locks.ensures.err ∙ c.self.view_is)
 
 pub returns-clause-ok : goal.returns-clause-ok
 returns-clause-ok c =
     let t = (table_of c.self.inside.holdings.cells c.self.inside.holdings.lists) in
     let s = table_of c.give_locks.new.holdings.cells c.give_locks.new.holdings.lists in
-    let all = c.self.inside.bulk_all in
+    let all = c.self.inside.bulk_keeps_all in
     let bulk = c.self.inside.bulk in
     let k = c.self.inside.keeps_all in
     let new = seen_as (k || c.has_released-has_released.result) (with_bulk all bulk s) in

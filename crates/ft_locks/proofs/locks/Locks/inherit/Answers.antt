@@ -38,9 +38,9 @@ returns c =
     let s = table_of c.close.new.self.cells c.close.new.self.lists in
     let after : (d : Cell) (u : ℕ) → marks_at c.close.new.self.cells d u ≡ after_hand c.args.child c.args.parent (marks_at m d) u = λ d u.
     ap (λ x. marks_at x d u) c.close.ensures.cells ∙ c.hand_over.ensures.marks d u ∙ (λ i. after_hand (c.child.view_is i) (c.parent.view_is i) (marks_at m d) u) in
-    subst (λ (x : LockTable). AreInherited x (seen_as c.self.inside.keeps_all (with_bulk c.self.inside.bulk_all c.self.inside.bulk s)) c.args.child c.args.parent) c.self.view_is
-    (seen-inherited c.self.inside.keeps_all (with_bulk c.self.inside.bulk_all c.self.inside.bulk t) (with_bulk c.self.inside.bulk_all c.self.inside.bulk s) c.args.child c.args.parent
-    (inherited-gone c.self.inside.bulk_all c.self.inside.bulk t s
+    subst (λ (x : LockTable). AreInherited x (seen_as c.self.inside.keeps_all (with_bulk c.self.inside.bulk_keeps_all c.self.inside.bulk s)) c.args.child c.args.parent) c.self.view_is
+    (seen-inherited c.self.inside.keeps_all (with_bulk c.self.inside.bulk_keeps_all c.self.inside.bulk t) (with_bulk c.self.inside.bulk_keeps_all c.self.inside.bulk s) c.args.child c.args.parent
+    (inherited-gone c.self.inside.bulk_keeps_all c.self.inside.bulk t s
     (λ d. locked-seen c.close.new.self.cells c.close.new.self.lists d
     ∙ inherited_marked m c.close.new.self.cells c.args.child c.args.parent
     (opened_open t m c.self.inside.holdings.lists refl c.args.child child_open).0 (opened_open t m c.self.inside.holdings.lists refl c.args.parent parent_open).0 c.requires.apart after d

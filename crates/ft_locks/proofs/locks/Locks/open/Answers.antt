@@ -20,7 +20,7 @@ invariant_of-self c = (
 
 pub returns-clause-ok : goal.returns-clause-ok
 returns-clause-ok c = ok_then c.open.result _ _
-    (λ (is : _). ap (λ t. seen_as c.self.inside.keeps_all (with_bulk c.self.inside.bulk_all c.self.inside.bulk t)) (open_view (table_of c.self.inside.holdings.cells c.self.inside.holdings.lists) c.self.inside.holdings.cells c.self.inside.holdings.lists refl c.self.invariant.0 c.open.new.self.cells c.open.new.self.lists c.args.txn
+    (λ (is : _). ap (λ t. seen_as c.self.inside.keeps_all (with_bulk c.self.inside.bulk_keeps_all c.self.inside.bulk t)) (open_view (table_of c.self.inside.holdings.cells c.self.inside.holdings.lists) c.self.inside.holdings.cells c.self.inside.holdings.lists refl c.self.invariant.0 c.open.new.self.cells c.open.new.self.lists c.args.txn
     (list_in c.self.inside.holdings.lists c.txn.inside.0) c.open.ensures.cells (apart_test c.args.txn 0 (λ e. omega (arith, c.requires, e)))
     (is ∙ ap (λ u. finite.insert c.self.inside.holdings.lists u (list_in c.self.inside.holdings.lists c.txn.inside.0)) c.txn.view_is))
     ∙ ap (λ (t : LockTable). record t { opened = set.insert t.opened c.args.txn }) c.self.view_is)

@@ -28,10 +28,10 @@ pub invariant_of-self : goal.invariant_of-self
 invariant_of-self c =
     let kept = subst (λ (x : Cells × Lists Cell). IsKept x.0 x.1) (λ i. (sym c.close.ensures.cells i, sym c.close.ensures.lists i)) c.release_places-at_once.ensures.kept in
     elim c.if-at_once.branch [
-      | then-at_once w ↦ subst (λ (x : Inside). IsKept x.holdings.cells x.holdings.lists × AreSingle (left_in x.bulk_all x.bulk)) (sym w.self-inside-is)
+      | then-at_once w ↦ subst (λ (x : Inside). IsKept x.holdings.cells x.holdings.lists × AreSingle (left_in x.bulk_keeps_all x.bulk)) (sym w.self-inside-is)
           (kept, c.release_places-at_once.ensures.single c.self.inside.keeps_all (λ no. absurd (false≢true (sym no ∙ w.if-at_once.true))))
-      | else-at_once w ↦ subst (λ (x : Inside). IsKept x.holdings.cells x.holdings.lists × AreSingle (left_in x.bulk_all x.bulk)) (sym w.self-inside-is)
-          (kept, c.release_places-at_once.ensures.single c.self.inside.bulk_all (λ _. c.self.invariant.1))
+      | else-at_once w ↦ subst (λ (x : Inside). IsKept x.holdings.cells x.holdings.lists × AreSingle (left_in x.bulk_keeps_all x.bulk)) (sym w.self-inside-is)
+          (kept, c.release_places-at_once.ensures.single c.self.inside.bulk_keeps_all (λ _. c.self.invariant.1))
     ]
 
 pub returns : goal.returns
@@ -39,14 +39,14 @@ returns c =
     let s = table_of c.close.new.self.cells c.close.new.self.lists in
     let t = (table_of c.self.inside.holdings.cells c.self.inside.holdings.lists) in
     let k = c.self.inside.keeps_all in
-    let all = c.self.inside.bulk_all in
+    let all = c.self.inside.bulk_keeps_all in
     let old = with_bulk all c.self.inside.bulk t in
     let bulk = c.release_places-at_once.new.bulk in
     let done = c.release_places-at_once.ensures in
     let at_once = c.release_places-at_once.result in
     let owner = c.txn.inside.0 in
     let closed : table_of c.release_places-at_once.new.holdings.cells (finite.remove c.release_places-at_once.new.holdings.lists owner) ≡ s = λ i. table_of (sym c.close.ensures.cells i) (sym c.close.ensures.lists i) in
-    let view : Inside → LockTable = λ x. seen_as (not at_once) (with_bulk x.bulk_all x.bulk (table_of x.holdings.cells x.holdings.lists)) in
+    let view : Inside → LockTable = λ x. seen_as (not at_once) (with_bulk x.bulk_keeps_all x.bulk (table_of x.holdings.cells x.holdings.lists)) in
     let seen : AreReleased (seen_as k old) (view c.if-at_once.self-inside) owner = elim c.if-at_once.branch [
       | then-at_once w ↦
           subst (λ (x : Inside). AreReleased (seen_as k old) (view x) owner) (sym w.self-inside-is)

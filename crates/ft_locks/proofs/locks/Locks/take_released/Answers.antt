@@ -12,7 +12,7 @@ pub returns-clause-taken : goal.returns-clause-taken
 returns-clause-taken c =
     let none = if_absent c.take-told.result _ (sym c.is_some.ensures ∙ c.if-is_some.false) c.take-told.ensures.none in
     IfSome_then c.take_listed.result c.take_listed.ensures.taken (λ cell taken.
-    ap (seen_as c.self.inside.keeps_all) (gone-none c.self.inside.bulk_all c.take-told.new.self (table_of c.take_listed.new.holdings.cells c.take_listed.new.holdings.lists) none.0 ∙ taken)
+    ap (seen_as c.self.inside.keeps_all) (gone-none c.self.inside.bulk_keeps_all c.take-told.new.self (table_of c.take_listed.new.holdings.cells c.take_listed.new.holdings.lists) none.0 ∙ taken)
     ∙ ap (λ (t : LockTable). record t { released_cells = set.remove t.released_cells cell }) (ap (seen_as c.self.inside.keeps_all) (sym none.1) ∙ c.self.view_is))
 
 pub returns-clause-none : goal.returns-clause-none
@@ -21,5 +21,5 @@ returns-clause-none c =
     let before = ap (seen_as c.self.inside.keeps_all) (sym none.1) ∙ c.self.view_is in
     none_then c.take_listed.result _ _ (λ left. (
       ap (λ (t : LockTable). t.released_cells) (sym before) ∙ left.0,
-      ap (seen_as c.self.inside.keeps_all) (gone-none c.self.inside.bulk_all c.take-told.new.self (table_of c.take_listed.new.holdings.cells c.take_listed.new.holdings.lists) none.0 ∙ left.1) ∙ before,
+      ap (seen_as c.self.inside.keeps_all) (gone-none c.self.inside.bulk_keeps_all c.take-told.new.self (table_of c.take_listed.new.holdings.cells c.take_listed.new.holdings.lists) none.0 ∙ left.1) ∙ before,
     )) c.take_listed.ensures.none

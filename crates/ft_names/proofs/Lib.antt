@@ -1,0 +1,4 @@
+pub mod Answering
+pub mod Keyed
+pub mod Unnamed
+pub mod Wording

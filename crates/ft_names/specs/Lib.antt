@@ -1,0 +1,4 @@
+-- What callers cite.
+pub mod Names
+pub mod Meanings
+pub mod Lines

@@ -1,0 +1,6 @@
+pub mod Spacing
+pub mod Lining
+pub mod Keeping
+pub mod Planned
+pub mod Counting
+pub mod Places
