@@ -198,7 +198,7 @@ fn misused(alloc: Global, found: &ArgMatches, flag: Flag) -> Choice
     let name = flag.name();
     let value = found.get_str(name).unwrap_or("");
     let text = format!(in alloc;
-        "error: invalid value '{value}' for '--{name} <N>': it is neither {} nor none\n\n\
+        "error: invalid value '{value}' for '--{name} <N>': it is neither {}, nor none\n\n\
             For more information, try '--help'.\n",
         flag.values()
     );
@@ -247,7 +247,8 @@ fn misplaced(alloc: Global, found: &ArgMatches) -> Choice
 {
     let value = found.get_str("at").unwrap_or("");
     let text = format!(in alloc;
-        "error: invalid value '{value}' for '--at <PATH>': it is no absolute path of the tree\n\n\
+        "error: invalid value '{value}' for '--at <PATH>': \
+            it is no absolute path that a tree can have\n\n\
             For more information, try '--help'.\n"
     );
     match text {
@@ -607,7 +608,7 @@ fn sync_arg<'a>(alloc: Global) -> Arg<'a>
     Arg::new(alloc, "sync")
         .long("sync")
         .action(ArgAction::SetTrue)
-        .help("Make it survive a power failure after the end")
+        .help("Wait until the disk has everything")
 }
 
 /// Returns the flag that changes a directory that exists.

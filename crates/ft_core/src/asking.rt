@@ -59,7 +59,7 @@ impl Core {
 
     /// Makes a copy of a call, as `ask` makes the call.
     ///
-    /// Refuses what `ask` refuses, in its order; the copy may want memory too.
+    /// Refuses what `ask` refuses, in its order; there may be no memory for the copy too.
     pub fn ask_copy(&mut self, txn: TxnId, call: &Call) -> Result<Outcome, Fault>
         ensures { IsStep exact_rule self.old.state (Ask txn call.now)
             (answer_with outcome_answer result) self.new.state }

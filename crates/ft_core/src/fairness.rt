@@ -1,4 +1,4 @@
-// Fair waiting: a call that nothing blocks waits behind older asks that conflict with it.
+// Fair waiting: a call that nothing blocks waits for older asks that conflict with it.
 ghost use Rattle.std.specs.Prelude.{◌≡◌, ◌↔◌, ◌++◌, ◌==◌, ◌<◌, false, Some, IfOk, IfErr, IfSome, OnOk, OnErr, IsSome, IsTrue, is_some, length, map, position, true};
 ghost use Rattle.std.specs.List.{list_any};
 ghost use Rattle.std.specs.FinMap as finite;

@@ -170,14 +170,14 @@ impl Journal {
         self.subs.insert(txn, None)
     }
 
-    /// Tells that a transaction has begun.
+    /// Notes that a transaction has begun.
     pub(crate) fn begin(&mut self, txn: TxnId, parent: Option<TxnId>)
         ensures { self.new ≡ with_begin self.old txn parent }
     {
         self.past = self.past.then(&Turn::Begin { txn, parent });
     }
 
-    /// Tells that a call was granted: the one that was asked for now, or without one the call that
+    /// Notes that a call was granted: the one that was asked for now, or without one the call that
     /// the transaction waits for. It waits for nothing then. Hands out the call that it waited for.
     pub(crate) fn grant(
         &mut self,

@@ -21,7 +21,7 @@ pub struct Work<'a, M, G> {
     pub manager: &'a M,
     pub gate: &'a G,
     pub board: &'a Board,
-    /// How often a call is asked for.
+    /// How often a call is requested.
     pub turns: u64,
     /// How often a job is begun again; none if no deadlock is broken.
     pub retries: Option<u64>,
@@ -313,14 +313,14 @@ fn begin_again<M: Manager, G: Gate, R: Wait + Clock>(
     }
 }
 
-/// How often a call is asked for before a deadlock is looked for. The number doubles from look to
+/// How often a call is requested before a deadlock is looked for. The number doubles from look to
 /// look, up to `MOST_TURNS`.
 const FIRST_TURNS: u64 = 2;
 
-/// How often a call is asked for between two looks for a deadlock at most.
+/// How often a call is requested between two looks for a deadlock at most.
 const MOST_TURNS: u64 = 16;
 
-/// Asks for a call, as often as it may be asked for. If deadlocks are broken, one is looked for
+/// Requests a call, as often as it may be requested. If deadlocks are broken, one is looked for
 /// after the call has waited twice, four times more and so on, and at the end.
 fn ask_wait<M: Manager, G: Gate, R: Wait + Clock>(
     rt: &R,

@@ -10,7 +10,7 @@ pub const USUAL_RETRIES: u64 = 10;
 /// How jobs are run.
 #[derive(Clone, Copy, Debug)]
 pub struct Pace {
-    /// How often a call is asked for at most.
+    /// How often a call is requested at most.
     pub turns: u64,
     /// How many threads run them at most.
     pub threads: u64,

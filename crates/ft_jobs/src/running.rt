@@ -70,7 +70,7 @@ impl JobsOutcome {
 /// Runs the jobs of a plan in threads, each in a transaction of its own: a top job in one at the
 /// top; a subjob, once its parent has reached its `subs`, in one under its parent's; and a job that
 /// comes after others once these have committed. The pace gives the number of threads, how often a
-/// call is asked for, and how often a job is begun again that was aborted to break a deadlock.
+/// call is requested, and how often a job is begun again that was aborted to break a deadlock.
 ///
 /// At the end the reports are compared with the history, whatever the manager returned. Returns
 /// Mismatch if they are not what happened or a transaction is live, and Thread if a thread could

@@ -230,7 +230,7 @@ pub(crate) fn said_mode(kind: Kind, mode: u16) -> Option<u16>
     }
 }
 
-/// Returns whether owner and group must be said.
+/// Returns whether owner and group must be written.
 pub(crate) fn has_owners(attributes: Attributes) -> bool
     ensures { result ≡ has_owners attributes }
 {
@@ -297,14 +297,14 @@ fn top_mkdir(alloc: Global, spelling: Spelling<'_>) -> Result<Option<Call>, Copy
     }))
 }
 
-/// Returns whether the mode of the directory that holds everything must be said.
+/// Returns whether the mode of the directory that holds everything must be written.
 pub(crate) fn has_top_mode(spelling: Spelling<'_>, attributes: Attributes) -> bool
     ensures { result ≡ has_top_mode spelling.entry attributes }
 {
     !spelling.is_top_new() || said_mode(Kind::Dir, attributes.mode).is_some()
 }
 
-/// Returns whether its owner and its group must be said.
+/// Returns whether its owner and its group must be written.
 pub(crate) fn has_top_owners(spelling: Spelling<'_>, attributes: Attributes) -> bool
     ensures { result ≡ has_top_owners spelling.entry attributes }
 {

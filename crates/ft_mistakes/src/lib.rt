@@ -2,7 +2,7 @@
 //!
 //! `ft_plan` decides what a plan is, and its clauses say so exactly. This crate only explains: no
 //! clause states which line it names. It is asked only about bytes that are no plan, in which
-//! numbers stand in place of the names of steps.
+//! numbers take the place of the names of steps.
 #![tactic(auto)]
 
 use ft_names::{is_descriptor_word, is_name};

@@ -137,7 +137,7 @@ fn put_word(made: &mut Numbered, word: &[u8]) -> Result<(), Memory>
     Ok(())
 }
 
-/// Returns the first word of a text, and the text after the space behind it, if there is more.
+/// Returns the first word of a text, and the text after the space that ends it, if there is more.
 #[tactic(auto, using(crate::proofs::Wording::words_of_free, crate::proofs::Wording::words_of_split))]
 pub fn split_first(text: &[u8]) -> (&[u8], Option<&[u8]>)
     ensures words { words_of text.now ≡ result.0.now ∷ words_left result.1 }

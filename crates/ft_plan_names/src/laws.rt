@@ -22,7 +22,7 @@ pub fn lines_keep_places()
     ensures { PlaceLaw }
 {}
 
-/// Just the steps among the lines of a plan are counted, and the count begins with each job.
+/// Exactly the steps among the lines of a plan are counted, and the count begins with each job.
 pub fn steps_are_counted()
     ensures { CountLaw }
 {}

@@ -12,7 +12,7 @@ use ft_plan::LONGEST_PLAN;
 use ft_words::split_once;
 use std::alloc::Global;
 
-/// Returns a plan with the same lines, in which numbers stand in place of the names of steps.
+/// Returns a plan with the same lines, in which numbers take the place of the names of steps.
 ///
 /// A name that no earlier step of its job has given stays, and so its line is no line of a plan. A
 /// text that has more than 8,388,608 bytes is returned as it is.

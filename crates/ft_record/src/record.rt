@@ -1,4 +1,4 @@
-// A list of events, with places for those that are not to want memory.
+// A list of events, with places for those that must not lack memory.
 ghost use Rattle.std.specs.Prelude.{◌≡◌, ◌<◌, ◌≤◌, ◌+◌, [], OnOk, OnErr};
 ghost use Rattle.ft_core.specs.FullOutcomes.{outcome_of};
 ghost use Rattle.ft_record.specs.Recording.{HasReplyTwice, nothing_recorded, with_new, with_outcome, with_told, with_given_back};

@@ -94,7 +94,7 @@ impl Session {
         }
     }
 
-    /// Returns the turns when a transaction asks for a call, and keeps its own or gets the last
+    /// Returns the turns when a transaction requests a call, and keeps its own or gets the last
     /// one.
     fn turns_for(&self, txn: TxnId, keeps: bool) -> Result<Vec<TxnId>, Memory>
         ensures { IfOk result (λ turns. turns.items
@@ -108,7 +108,7 @@ impl Session {
         Ok(turns)
     }
 
-    /// Returns the turns that are kept when a transaction asks for a call.
+    /// Returns the turns that are kept when a transaction requests a call.
     fn kept_turns(&self, txn: TxnId, keeps: bool) -> Result<Vec<TxnId>, Memory>
         ensures { IfOk result (λ turns. turns.items
             ≡ kept_turns self.now.core.state self.now.turns.items txn keeps) }
@@ -122,7 +122,7 @@ impl Session {
         Ok(turns)
     }
 
-    /// Returns whether the turn of a transaction is kept when one asks for a call.
+    /// Returns whether the turn of a transaction is kept when one requests a call.
     fn is_kept(&self, other: TxnId, txn: TxnId, keeps: bool) -> bool
         ensures { result ≡ (is_some (finite.get self.now.core.state.asks other)
             && (keeps || not (other == txn))) }

@@ -89,7 +89,7 @@ impl<J: Sharing, C: Shareable> Guarded<J, C> {
         self.core.core()
     }
 
-    /// Its contract is what is true whenever the lock is got: the history of the core is legal,
+    /// Its contract is what is true whenever the lock is taken: the history of the core is legal,
     /// from a sound base, and goes on from what had happened when it was shared; it has views
     /// exactly if it was shared with views; and what is published is a beginning of the committed
     /// part of its serial list. It does nothing.

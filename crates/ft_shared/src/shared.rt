@@ -35,7 +35,7 @@ pub const MOST_PAUSE: u64 = 5;
 ///
 /// Each call makes one call of the core, or reads it, in one holding of the lock; a commit or an
 /// abort that is not refused also sweeps, in the same holding, what it has released. A `Core` is
-/// behind the lock: whenever the lock is got, its history is a legal one from a sound base, which
+/// behind the lock: whenever the lock is taken, its history is a legal one from a sound base, which
 /// goes on from the state that was shared (`J` names that state), and its tree is what a plain tree
 /// holds after only the standing calls. No clause can say how far it had come: each says that the
 /// answer is a legal one of some core that goes on from there (`InCoreFrom`). No clause states that
@@ -127,7 +127,7 @@ impl<J: Sharing, C: Shareable> Shared<J, C> {
         answer
     }
 
-    /// Asks for a call up to so many times, until it is granted or refused, and returns that; else
+    /// Requests a call up to so many times, until it is granted or refused, and returns that; else
     /// the last answer of which transactions it waits for. A call that waits remains the
     /// transaction's ask.
     ///

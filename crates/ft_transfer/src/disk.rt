@@ -21,7 +21,7 @@ pub trait DiskFiles {
         ensures ok { IfOk result (λ bytes. tells self.now (Reads name.now bytes.items)) }
         ensures err { OnErr result (tells self.now (Fails name.now)) };
 
-    /// Obtains a file these bytes, and no others. If it fails, the file stays as it was.
+    /// Gives a file these bytes, and no others. If it fails, the file stays as it was.
     fn write_file(&self, name: &[u8], bytes: &[u8]) -> Result<(), FileFailed>
         ensures ok { OnOk result (tells self.now (Writes name.now bytes.now)) }
         ensures err { OnErr result (tells self.now (Fails name.now)) };

@@ -16,15 +16,15 @@ use std::alloc::Global;
 /// A question of a reader to a tree.
 #[derive(Clone, Copy)]
 pub(crate) enum Question<'p> {
-    /// Asks for the reply of Stat.
+    /// What Stat replies.
     Stat(&'p FilePath),
-    /// Asks for the reply of Lstat.
+    /// What Lstat replies.
     Lstat(&'p FilePath),
-    /// Asks for the reply of Readlink.
+    /// What Readlink replies.
     Link(&'p FilePath),
-    /// Asks for the reply of List.
+    /// What List replies.
     List(&'p FilePath),
-    /// Asks for the contents of a file.
+    /// The contents of a file.
     File(&'p FilePath),
 }
 

@@ -1,4 +1,4 @@
-// The transactions ahead of one that asks for a call, if calls wait behind older asks.
+// The transactions ahead of one that requests a call, if calls wait for older asks.
 ghost use Rattle.std.specs.Prelude.{◌≡◌, IfOk, filter, not};
 ghost use Rattle.std.specs.FinMap as finite;
 ghost use Rattle.ft_waits.specs.Behind.{AreAhead, AreEdgesBehind, AreWhoWait, IsPass};

@@ -1,4 +1,4 @@
-// The arguments of a call, by the words behind its name.
+// The arguments of a call, by the words after its name.
 ghost use Rattle.std.specs.Prelude.{◌≡◌};
 ghost use Rattle.ft_words.specs.Spelling.{parse_u64, parse_u32, parse_i64, parse_path, parse_data};
 ghost use Rattle.ft_words.specs.Modes.{parse_mode, parse_owner};

@@ -15,7 +15,7 @@ use ft_path::{FilePath, LONGEST_PATH, PathFault};
 use ft_tree::{MOST_MODE, TreeLimits};
 use std::alloc::Global;
 
-/// Why a call could not be asked for.
+/// Why a call could not be requested.
 #[derive(Clone, Copy, Debug, PartialEq, Eq)]
 pub(crate) enum BadArgument {
     /// There was no memory for a copy of its path or of its bytes.
@@ -56,7 +56,7 @@ pub(crate) fn checkpoint(alloc: Global, tree: &mut Handle) -> NuzAnswer
     told
 }
 
-/// Asks for a call in a transaction. It may be the cut of another one.
+/// Requests a call in a transaction. It may be the cut of another one.
 pub(crate) fn call(alloc: Global, tree: &mut Handle, txn: u64, call: Call) -> NuzAnswer
     ensures asked { IsAsked tree.old.session (Ask txn call) result tree.new.session }
     ensures whole { (whole : CallOf) → call ≡ cut_of (limits_of tree.old.session) whole
@@ -91,7 +91,7 @@ pub(crate) fn bad_argument(alloc: Global, tree: &mut Handle) -> NuzAnswer
     NuzAnswer::of(BAD, 0, 0)
 }
 
-/// Answers a call that could not be asked for.
+/// Answers a call that could not be requested.
 pub(crate) fn reject(alloc: Global, tree: &mut Handle, txn: u64, why: BadArgument) -> NuzAnswer
     ensures { (bad : Bool) (call : CallOf) → bad ≡ is_bad why
         → IsCalled bad tree.old.session txn call result tree.new.session }

@@ -212,7 +212,7 @@ fn choices_of_load_at(rt: HostRuntime) -> Result<(), Fail> {
     assert!(rt; is_load_at(alloc, &["load", "--at=/", "src"], b"/"));
     assert!(rt; is_load_at(alloc, &["load", "--at", "/a%20b/%25", "src"], b"/a b/%"));
     for path in ["src", "", "a/b", "/a%00", "%"] {
-        let text = "for '--at <PATH>': it is no absolute path of the tree";
+        let text = "for '--at <PATH>': it is no absolute path that a tree can have";
         assert!(rt;
             is_usage(alloc, &["load", "src", "--at", path], text),
             "at {path}"
