@@ -11,6 +11,6 @@ mod transfer;
 
 pub use carrying::carry_out;
 pub use disk::{DiskFiles, FileFailed, NoFiles};
-pub use reading::parse_transfer;
+pub use reading::{parse_direction, parse_path_file, parse_transfer};
 pub use text::put_transfer_answer;
 pub use transfer::{Direction, Transfer, TransferAnswer, did_well};

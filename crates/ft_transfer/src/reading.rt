@@ -29,8 +29,8 @@ pub fn parse_transfer(alloc: Global, words: Words<'_>) -> Result<Transfer, Parse
     })
 }
 
-/// Returns the direction that a word names.
-fn parse_direction(word: &[u8]) -> Option<Direction>
+/// Returns the direction that a word names, if it names one.
+pub fn parse_direction(word: &[u8]) -> Option<Direction>
     ensures { result ≡ look_up direction_words word.now }
 {
     if word == b"put".as_slice() {
@@ -43,7 +43,7 @@ fn parse_direction(word: &[u8]) -> Option<Direction>
 }
 
 /// Returns the path and the name of a file of the disk that words spell: `PATH @FILE`.
-fn parse_path_file(alloc: Global, words: Words<'_>) -> Result<(FilePath, FilePath), ParseError>
+pub fn parse_path_file(alloc: Global, words: Words<'_>) -> Result<(FilePath, FilePath), ParseError>
     ensures { Reads result (both parse_path (only parse_file) words.entry) }
 {
     let mut words = words;
