@@ -60,8 +60,10 @@ uint32_t make_getattr(struct request *request) {
 
 /* ---- setting attributes
  *
- * An attribute that has the value already is not set, so that steps that set the same don't wait
- * for each other: tar sets mode and owner of each directory on the way. */
+ * A mode or an owner that is there already is not set, so that steps that set the same don't wait
+ * for each other: tar sets both of each directory on the way. A time is always set, and so the file
+ * is written: the clock ticks every few milliseconds, or later on a busy machine, so a program that
+ * touches a file may set the time that the file has already. */
 
 static uint32_t set_mode(struct node *node, uint32_t mode) {
     nuz_answer answer = { 0 };
@@ -111,10 +113,7 @@ static uint32_t set_owner(struct node *node, uint32_t owner, uint32_t group) {
 
 /* Sets the time of a file. Directories and links have none. */
 static uint32_t set_file_time(struct node *node, struct timespec time) {
-    const struct told *told = &node->told;
-    bool is_set = told->has_time && !node->is_untimed && told->time.tv_sec == time.tv_sec
-               && told->time.tv_nsec == time.tv_nsec;
-    if (told->kind != NUZ_FILE || is_set) {
+    if (node->told.kind != NUZ_FILE) {
         return 0;
     }
     struct timespec before = node->time;

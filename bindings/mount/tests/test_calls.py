@@ -57,6 +57,11 @@ class InStepTest(mounts.MountTest):
             call(*words)
         self.assertEqual(errno.errorcode.get(raised.exception.errno), errno.errorcode[number])
 
+    def calls(self) -> int:
+        """How many calls of the tree the step has made."""
+        found = re.search(r"(?m)^step txn \d+ calls (\d+)$", self.mounted.steps())
+        return int(found[1]) if found else -1
+
 
 class CallsTest(InStepTest):
     def test_what_is_not_there(self) -> None:
@@ -132,11 +137,6 @@ class CallsTest(InStepTest):
         mounts.run("cmp", self.step / "copy", self.disk / "data")
         mounts.run("dd", f"if={self.disk}/data", f"of={self.step}/parts", "bs=777")
         mounts.run("cmp", self.step / "parts", self.disk / "data")
-
-    def calls(self) -> int:
-        """How many calls of the tree the step has made."""
-        found = re.search(r"(?m)^step txn \d+ calls (\d+)$", self.mounted.steps())
-        return int(found[1]) if found else -1
 
     def test_a_call_has_a_megabyte(self) -> None:
         megabytes = 8
@@ -258,6 +258,16 @@ class TimesTest(InStepTest):
         time.sleep(0.05)
         self.mounted.commit("step")
         self.assertEqual(self.times(self.mounted.job / "made"), told)
+
+    def test_each_that_is_set_is_written(self) -> None:
+        """Also one that the file has: many touches come in one tick of the clock."""
+        for options in ({}, {"ns": (0, self.LONG_AGO)}):
+            with self.subTest(options=options):
+                os.utime(self.file, **options)
+                before = self.calls()
+                for _ in range(100):
+                    os.utime(self.file, **options)
+                self.assertEqual(self.calls() - before, 100)
 
     def test_of_folders_and_links_are_let_be(self) -> None:
         os.symlink("file", self.step / "link")

@@ -556,6 +556,14 @@ class ReadAndWrittenTest(RunTest):
         self.assertRegex(self.run_it("--target", "a=b", *words, "true", status=125).stderr,
                          "(?m)^nuz: .* a=b$")
 
+    def test_file_that_gets_the_time_that_it_has(self) -> None:
+        """It is written all the same: so is one that is touched twice in a tick of the clock."""
+        os.utime(self.source / "file", ns=(0, 10**9))
+        self.run_it("--from", "source", "--depfile", self.told, "--manifest", self.disk / "place",
+                    "--", "touch", "-d", "@1", "file", cwd=self.disk)
+        self.assertEqual(self.told.read_text(), "source/file:\n")
+        self.assertIn("/file read,written file", (self.disk / "place").read_text())
+
     def test_files_in_the_folder_that_is_saved(self) -> None:
         for number in range(2):
             with self.subTest(number=number):
