@@ -150,6 +150,12 @@ def ended_within(process: subprocess.Popen, seconds: float = AT_ONCE) -> bool:
 # ---- a mounted tree
 
 
+def is_mounted(top: Path) -> bool:
+    """Whether something is mounted there. (A stat of it may fail, as long as a mount ends.)"""
+    lines = Path("/proc/self/mounts").read_text().splitlines()
+    return any(line.split(" ")[1] == str(top) for line in lines)
+
+
 class Mount:
     """A tree that is mounted until it is closed."""
 
@@ -188,7 +194,7 @@ class Mount:
         raise AssertionError("no process serves the mount")
 
     def close(self) -> None:
-        if os.path.ismount(self.top):
+        if is_mounted(self.top):
             run("fusermount3", "-u", "-z", self.top, status=None)
 
 

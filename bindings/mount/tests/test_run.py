@@ -96,11 +96,12 @@ class FromToTest(RunTest):
 
     def test_one_replaces_at_a_time(self) -> None:
         words = "--from", self.source, "--to", self.source, "--replace", "--"
-        running = mounts.start(mounts.NUZ, "run", *words, "sh", "-c",
-                               f"touch {self.disk}/told; sleep 3; touch one",
-                               env=self.environment)
-        self.assertTrue(mounts.wait_until((self.disk / "told").exists))
+        told = self.disk / "told"
+        script = f"touch {told}; while test -e {told}; do sleep 0.01; done; touch one"
+        running = mounts.start(mounts.NUZ, "run", *words, "sh", "-c", script, env=self.environment)
+        self.assertTrue(mounts.wait_until(told.exists))
         self.assertIn("busy", self.run_it(*words, "touch", "two", status=125).stderr)
+        told.unlink()
         self.assertEqual(running.wait(), 0)
         self.run_it(*words, "touch", "two")
         self.assertEqual(sorted(os.listdir(self.source)), ["file", "gone", "one", "two"])
@@ -303,11 +304,12 @@ class StatusTest(RunTest):
                 self.assert_nothing_left()
 
     def begin(self, *words: object) -> subprocess.Popen:
-        """Begins a run, and waits until the command has begun."""
+        """Begins a run, and waits until the command has begun. (It has no child of its own then,
+        which could be stopped in its place.)"""
         told = self.disk / "told"
         told.unlink(missing_ok=True)
         running = mounts.start(mounts.NUZ, "run", "--from", self.source, "--to", self.target, "--",
-                               "sh", "-c", f'touch {told}; exec "$@"', "sh", *words,
+                               "sh", "-c", f': >{told}; exec "$@"', "sh", *words,
                                env=self.environment)
         self.addCleanup(running.kill)
         self.assertTrue(mounts.wait_until(told.exists, 10))
@@ -453,6 +455,12 @@ def rules_of(depfile: Path) -> dict[str, set[str]]:
     return {name: set(words.split()) for name, words in found if words and name[0] != "."}
 
 
+def touch_later(path: Path, other: Path) -> None:
+    """Gives a file a later time than another one has. (The clock may not have ticked since.)"""
+    later = other.stat().st_mtime_ns + 1
+    os.utime(path, ns=(later, later))
+
+
 class ReadAndWrittenTest(RunTest):
     """What a step has read and written is what its command has."""
 
@@ -488,10 +496,9 @@ class ReadAndWrittenTest(RunTest):
         (self.disk / "rules").write_text(f"include {self.told}\ntarget/main.o:\n\ttouch $@\n")
         make = "make", "-q", "-f", "rules", "target/main.o"
         mounts.run(*make, cwd=self.disk)
-        later = (self.target / "main.o").stat().st_mtime_ns + 1
-        os.utime(self.source / "include" / "unused.h", ns=(later, later))
+        touch_later(self.source / "include" / "unused.h", self.target / "main.o")
         mounts.run(*make, cwd=self.disk)
-        os.utime(self.source / "include" / "more.h", ns=(later, later))
+        touch_later(self.source / "include" / "more.h", self.target / "main.o")
         mounts.run(*make, cwd=self.disk, status=1)
 
     def test_ninja_reads_it(self) -> None:
@@ -504,9 +511,9 @@ class ReadAndWrittenTest(RunTest):
         ninja = "ninja", "-C", self.disk
         mounts.run(*ninja)
         self.assertIn("no work", mounts.run(*ninja).stdout)
-        os.utime(self.source / "include" / "unused.h")
+        touch_later(self.source / "include" / "unused.h", self.target / "main.o")
         self.assertIn("no work", mounts.run(*ninja).stdout)
-        os.utime(self.source / "include" / "more.h")
+        touch_later(self.source / "include" / "more.h", self.target / "main.o")
         self.assertNotIn("no work", mounts.run(*ninja).stdout)
 
     def test_manifest_has_absent_names_too(self) -> None:
@@ -683,7 +690,7 @@ class ReadAndWrittenTest(RunTest):
         mounts.run("make", "main.o", cwd=job / "src")
         make = "make", "-q", "main.o"
         mounts.run(*make, cwd=job / "src")
-        os.utime(job / "include" / "unused.h")
+        touch_later(job / "include" / "unused.h", job / "src" / "main.o")
         mounts.run(*make, cwd=job / "src")
-        os.utime(job / "include" / "more.h")
+        touch_later(job / "include" / "more.h", job / "src" / "main.o")
         mounts.run(*make, cwd=job / "src", status=1)

@@ -574,7 +574,7 @@ class EndTest(StepsTest):
     """A mount that ends."""
 
     def is_gone(self, mounted: mounts.Mount, pid: int) -> bool:
-        return not os.path.ismount(mounted.top) and not mounts.is_running(pid)
+        return not mounts.is_mounted(mounted.top) and not mounts.is_running(pid)
 
     def assert_gone(self, mounted: mounts.Mount, pid: int) -> None:
         self.assertTrue(mounts.wait_until(lambda: self.is_gone(mounted, pid)))
@@ -605,7 +605,7 @@ class EndTest(StepsTest):
             self.assertIsNone(serving.poll())
             end(serving)
             self.assertTrue(mounts.ended_within(serving))
-            self.assertTrue(mounts.wait_until(lambda: not os.path.ismount(top)))
+            self.assertTrue(mounts.wait_until(lambda: not mounts.is_mounted(top)))
             self.assertIn(serving.returncode, (0, -signal.SIGKILL))
             self.assertEqual(os.listdir(top), [])
 
