@@ -310,6 +310,7 @@ struct mount {
     struct table nodes, names;
     struct wait *waits;
     struct request *parked;
+    int stamped; /* a file without a name, to which the kernel gives the time, or -1 */
     struct timespec born;
     struct timespec limit; /* of a wait */
     bool has_limit;

@@ -19,10 +19,17 @@ uint64_t shown_number(const struct node *node) {
     return node->step == NULL ? node->number : node->step->place << 40 | node->number;
 }
 
+/* The time that the kernel gives a file which is written now. So a file of a step is never older
+ * than one that was written on the disk before, nor newer than one that is written there later.
+ * (The kernel takes the time of a coarse clock, or of a fine one if somebody has seen the time that
+ * the file had. So neither clock, if it were read here, would be in order with both.) */
 struct timespec now(void) {
     struct timespec time;
+    struct stat status;
+    bool is_known = served.stamped >= 0 && futimens(served.stamped, NULL) == 0
+                 && fstat(served.stamped, &status) == 0;
     clock_gettime(CLOCK_REALTIME_COARSE, &time);
-    return time;
+    return is_known ? status.st_mtim : time;
 }
 
 /* ---- nodes */

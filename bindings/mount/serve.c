@@ -8,6 +8,7 @@
 #include <poll.h>
 #include <signal.h>
 #include <stdio.h>
+#include <sys/mman.h>
 #include <sys/prctl.h>
 #include <sys/random.h>
 #include <sys/sysmacros.h>
@@ -89,6 +90,7 @@ static void prepare(const struct serve_options *options) {
     pthread_condattr_setclock(&attributes, CLOCK_MONOTONIC);
     pthread_cond_init(&served.ended, &attributes);
     pthread_condattr_destroy(&attributes);
+    served.stamped = memfd_create("nuz", MFD_CLOEXEC);
     served.born = now();
     served.has_limit = options->has_limit;
     served.limit = options->limit;

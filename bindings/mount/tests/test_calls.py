@@ -269,6 +269,20 @@ class TimesTest(InStepTest):
                     os.utime(self.file, **options)
                 self.assertEqual(self.calls() - before, 100)
 
+    def test_in_order_with_the_disk(self) -> None:
+        """What is made of a file is not older than that, wherever the two are."""
+        before = self.disk / "before"
+        for number in range(100):
+            # (the kernel gives a new file, which nobody has looked at, the time of a coarse clock)
+            after = self.disk / f"after{number}"
+            before.write_text("text")
+            self.file.write_text("text")
+            written = self.times(self.file)
+            os.utime(self.file)
+            mounts.run("sh", "-c", f"echo text >{after}")
+            times = [self.times(before), written, self.times(self.file), self.times(after)]
+            self.assertEqual(times, sorted(times))
+
     def test_of_folders_and_links_are_let_be(self) -> None:
         os.symlink("file", self.step / "link")
         os.utime(self.step / "link", ns=(0, 0), follow_symlinks=False)
