@@ -280,18 +280,25 @@ class StatusTest(RunTest):
         mounts.signal_all(below[:1], signal.SIGCONT)
         self.assertTrue(mounts.ended_within(running))
 
-    def test_killed_while_it_loads(self) -> None:
-        (self.source / "large").write_bytes(bytes(64 << 20))
+    def is_killed_while_it_loads(self) -> bool:
+        """Kills a run, which leaves nothing. Returns whether that was before it had mounted."""
         running = mounts.start(mounts.NUZ, "run", "--from", self.source, "--", "true",
                                env=self.environment)
-        self.assertTrue(mounts.wait_until(lambda: bool(mounts.children(running.pid))))
+        self.assertTrue(mounts.wait_until(
+            lambda: bool(mounts.children(running.pid)) or running.poll() is not None))
         below = mounts.children(running.pid)
         mounts.signal_all(below, signal.SIGSTOP)
-        self.assertEqual(self.mounts_here(), self.mounts_before)
+        is_loading = bool(below) and self.mounts_here() == self.mounts_before
         running.kill()
         running.wait()
         mounts.signal_all(below, signal.SIGCONT)
         self.assert_nothing_left()
+        return is_loading
+
+    def test_killed_while_it_loads(self) -> None:
+        (self.source / "large").write_bytes(bytes(64 << 20))
+        # (a run that is killed too late has to be tried again)
+        self.assertTrue(any(self.is_killed_while_it_loads() for _ in range(5)))
 
     def test_signals_go_to_the_command(self) -> None:
         for number in (signal.SIGTERM, signal.SIGHUP, signal.SIGINT):
