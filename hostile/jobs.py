@@ -1,9 +1,9 @@
 """Jobs in threads: each allocation refused, and each thread."""
 import os
-import sys
 import tempfile
 
 import playing
+import refusals
 import scripts
 
 # Two jobs side by side, and two inside the first: each makes a directory and looks at it.
@@ -40,8 +40,7 @@ DELAY = 300
 def tests():
     return [
         ("jobs run side by side", run_side_by_side),
-        ("jobs are refused memory", refused_memory),
-        ("jobs are refused memory from some time on", refused_memory_for_good),
+        *refusals.tests("jobs are", run_refused),
         ("jobs are refused threads", refused_threads),
         ("jobs are refused threads from some time on", refused_threads_for_good),
     ]
@@ -75,25 +74,10 @@ def run_side_by_side(bench):
     return None
 
 
-def refused_memory(bench):
-    return fault_of_refusals(bench, {})
-
-
-def refused_memory_for_good(bench):
-    return fault_of_refusals(bench, {"allocation_on": 1})
-
-
-def fault_of_refusals(bench, settings):
-    """Each allocation: the run ends well, or for lack of memory or of a thread."""
-    plan = Plan(bench)
-    for number in bench.part(range(1, sys.maxsize)):
-        ran, counts = plan.run(allocation=number, **settings)
-        fault = fault_of_run(ran)
-        if fault is not None:
-            return f"allocation {number}: {fault}"
-        if counts.refused == 0:
-            break
-    return None
+def run_refused(bench, **settings):
+    """The run ends well, or for lack of memory or of a thread."""
+    ran, counts = Plan(bench).run(**settings)
+    return fault_of_run(ran), counts
 
 
 def fault_of_run(ran):

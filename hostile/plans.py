@@ -36,10 +36,12 @@ Told = collections.namedtuple("Told", "txn end calls")
 NOT_OPENED = "'@' needs the number or the name of an earlier step 'open' of the job"
 
 NO_STEP = "not a step: no call has this name and these words"
-TOO_LONG = "it has more than 8,388,608 bytes, as it is or with numbers for its names"
+NO_FILE = "'put' and 'get' need just a path, and '@' with the name of a file of the disk"
+NO_FILE += " (%20 is a space)"
+TOO_LONG = "it has more than 8,388,608 bytes"
 
-# A plan that is too long once there are numbers, of two digits, in place of its names.
-LONG = "job a\n" + "stat /\n" * 9 + "open r /f as f\n" + "fstat @f\n" * 930_000 + "commit\n"
+# The most bytes that the file of a plan has.
+LONGEST = 8_388_608
 
 # Files that are no plans. For each: the line that is wrong, or None, and what is said of it.
 MISTAKES = [
@@ -73,8 +75,34 @@ MISTAKES = [
     ("job a\nmkdir /a as x\n", 2, NO_STEP),
     ("job a\nopen wc /a as x\nwrite @x b as c\n", 3, NO_STEP),
     ("strict\njob a\ntry\n", 3, "only a call may come after 'try'"),
-    (LONG, None, TOO_LONG),
-    ("#" * 8_388_609, None, TOO_LONG),
+    ("job a\nput\n", 2, NO_FILE),
+    ("job a\nput /f\n", 2, NO_FILE),
+    ("job a\nput /f g\n", 2, NO_FILE),
+    ("job a\nget @g\n", 2, NO_FILE),
+    ("job a\nget  /f @g\n", 2, NO_FILE),
+    ("job a\nget /f @g \n", 2, NO_FILE),
+    ("job a\nget /f @g more\n", 2, NO_FILE),
+    ("job a\nget /f @g as x\n", 2, NO_FILE),
+    ("job a\nget /f @%00\n", 2, NO_FILE),
+    ("job a\nget /%00 @g\n", 2, NO_FILE),
+    ("strict\njob a\ntry get /f\n", 3, NO_FILE),
+    ("strict\njob a\ntry try get /f @g\n", 3, NO_STEP),
+    ("job a\nGet /f @g\n", 2, NO_STEP),
+    ("get /f @g\njob a\ncommit\n", 1, "a step comes before the first job"),
+    ("job a\ntry get /f @g\ncommit\n", 2, "'try' is for strict plans"),
+    ("job a\ncommit\nget /f @g\n", 3, "a step comes after 'commit' or 'abort'"),
+    ("job a\nget /f @g\nget /f @h\nmakedir /a\n", 4, NO_STEP),
+    ("job a\nget /f @g\r\n\n# get /f @g\nmakedir /a\n", 5, NO_STEP),
+    ("job a\nget /f @g\ncommit\njob b\nget /f @g\n", 4, "the job does not end with 'commit' or 'abort'"),
+    ("job a\nget /f @g\nsubs\nget /f @g\ncommit\n", 3, "'subs' is a step of a job without subjobs"),
+    ("strict\njob a\nget /f @g\nafter b\n", 4, "'after' comes once, right after the line of its job"),
+    ("job a\nget /f @g\nread @put 9\n", 3, NOT_OPENED),
+    ("job a\nread @get 9\nget /f @g\n", 2, NOT_OPENED),
+    ("job a\nget /f @g\nread @2 9\n", 3, NOT_OPENED),
+    ("job a\nget /f @g\nread @1 9\nread @4 9\n", 4, NOT_OPENED),
+    ("job a\nget /f @g\ncommit\njob b\nread @get 9\n", 5, NOT_OPENED),
+    ("#" * LONGEST, None, "it has no job"),
+    ("#" * (LONGEST + 1), None, TOO_LONG),
 ]
 
 
@@ -84,6 +112,7 @@ def tests():
         ("strict plans keep their rules", strict_plans),
         ("a contended plan loses no job", contended_plan),
         ("names of steps mean their numbers", named_steps),
+        ("numbers may make a plan longer than its file may be", longest_plan),
     ]
     return [*plans, *mistakes]
 
@@ -119,6 +148,16 @@ def named_steps(bench):
         numbers, names = (run_text(bench, text, ("--threads", "1"))[0] for text in texts)
         if (names.status, names.text, names.errors) != (0, numbers.text, b"") or numbers.status:
             return f"seed {seed}: {texts}: {numbers}, {names}"
+    return None
+
+
+def longest_plan(bench):
+    """A file of as many bytes as it may have. Six times a number of two digits takes the place of a
+    name of one letter, and five bytes that give the name are left out: so the plan has one byte more."""
+    text = "job a\n" + "stat /\n" * 9 + "open wc /f as f\n" + "fstat @f\n" * 6 + "commit\n"
+    ran, _ = run_text(bench, text + "#" * (LONGEST - len(text)))
+    if ran.status != 0 or ran.errors or b"\ncall 17 1 fstat 11 = ok file 11 1 0\n" not in ran.text:
+        return f"{ran}"
     return None
 
 

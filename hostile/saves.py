@@ -1,8 +1,9 @@
 """Saves that are refused memory: what was begun is removed, even if there is none left."""
 import os
 import re
-import sys
 import tempfile
+
+import refusals
 
 # Directories in one another, an empty one, a file of two names, one of more than one piece, and
 # symbolic links: to a directory, of two names, and to nothing. Modes, by which nobody but the
@@ -36,32 +37,15 @@ REPORT = b"tree %d\n" % len(ROWS) + b"".join(row + b"\n" for row in ROWS)
 
 
 def tests():
-    return [
-        ("save is refused memory", refused_memory),
-        ("save is refused memory from some time on", refused_memory_for_good),
-    ]
+    return refusals.tests("save is", save_refused)
 
 
-def refused_memory(bench):
-    return fault_of_refusals(bench, {})
-
-
-def refused_memory_for_good(bench):
-    return fault_of_refusals(bench, {"allocation_on": 1})
-
-
-def fault_of_refusals(bench, settings):
-    """Each allocation: the directory is whole, or nothing is left."""
-    for number in bench.part(range(1, sys.maxsize)):
-        with tempfile.TemporaryDirectory() as work:
-            out = os.path.join(work, "out")
-            ran, counts = bench.unkind.run(["save", out], REPORT, allocation=number, **settings)
-            fault = fault_of_run(ran, work)
-        if fault is not None:
-            return f"allocation {number}: {fault}"
-        if counts.refused == 0:
-            break
-    return None
+def save_refused(bench, **settings):
+    """The directory is whole, or nothing is left."""
+    with tempfile.TemporaryDirectory() as work:
+        out = os.path.join(work, "out")
+        ran, counts = bench.unkind.run(["save", out], REPORT, **settings)
+        return fault_of_run(ran, work), counts
 
 
 def fault_of_run(ran, work):

@@ -9,9 +9,9 @@ import signal
 import socket
 import stat
 import subprocess
-import sys
 import tempfile
 
+import refusals
 import scripts
 
 IS_ROOT = os.geteuid() == 0
@@ -22,37 +22,20 @@ REPORTS = b"tree\nlocks\nattributes\nwaits\n"
 
 
 def tests():
-    return [
-        ("put and get are refused memory", refused_memory),
-        ("put and get are refused memory from some time on", refused_memory_for_good),
-    ]
+    return refusals.tests("put and get are", transfers_refused)
 
 
 # ---- refused memory
 
 
-def refused_memory(bench):
-    return fault_of_refusals(bench, {})
-
-
-def refused_memory_for_good(bench):
-    return fault_of_refusals(bench, {"allocation_on": 1})
-
-
-def fault_of_refusals(bench, settings):
-    """Each allocation: a transfer is answered and made, or refused and leaves nothing."""
-    for number in bench.part(range(1, sys.maxsize)):
-        with tempfile.TemporaryDirectory() as work:
-            put(f"{work}/in", b"two words")
-            lines = b"begin\n1 put /f @%s\n1 get /f @%s\ntree\n"
-            script = lines % (coded(f"{work}/in"), coded(f"{work}/out"))
-            ran, counts = bench.unkind.run(["play"], script, allocation=number, **settings)
-            fault = fault_of_run(ran, work)
-        if fault is not None:
-            return f"allocation {number}: {fault}"
-        if counts.refused == 0:
-            break
-    return None
+def transfers_refused(bench, **settings):
+    """A transfer is answered and made, or refused and leaves nothing."""
+    with tempfile.TemporaryDirectory() as work:
+        put(f"{work}/in", b"two words")
+        lines = b"begin\n1 put /f @%s\n1 get /f @%s\ntree\n"
+        script = lines % (coded(f"{work}/in"), coded(f"{work}/out"))
+        ran, counts = bench.unkind.run(["play"], script, **settings)
+        return fault_of_run(ran, work), counts
 
 
 def fault_of_run(ran, work):
@@ -247,7 +230,7 @@ def special_files(disk):
         os.chdir(here)
     reads = {
         "none": b"entity not found", "d": b"it is a directory", "fifo": b"it is a FIFO",
-        "to fifo": b"it is a FIFO", "to nothing": b"entity not found", "": b"entity not found",
+        "to fifo": b"it is a FIFO", "to nothing": b"entity not found",
         "ring": b"filesystem loop or indirection limit (e.g. symlink loop)",
         "socket": b"it is a socket", "/dev/null": b"it is a device", "d/": b"it is a directory",
         "f/": b"not a directory", "f/g": b"not a directory", ".": b"it is a directory",
@@ -261,13 +244,13 @@ def special_files(disk):
     disk.check("a symbolic link to a file is read", is_read, ran.err)
     writes = {
         "d": b"it is a directory", "fifo": b"it is a FIFO", "to f": b"it is a symbolic link",
-        "to nothing": b"it is a symbolic link", "socket": b"it is a socket", "": b"entity not found",
+        "to nothing": b"it is a symbolic link", "socket": b"it is a socket",
         "/dev/null": b"it is a device", "none/f": b"entity not found", "none/": b"entity not found",
         "f/g": b"not a directory", ".": b"it is a directory", "n" * 256: b"invalid filename",
     }
     for name, why in writes.items():
         word = coded(name)
-        path = disk.at(name) if name and os.path.lexists(disk.at(name)) else disk.at("f")
+        path = disk.at(name) if os.path.lexists(disk.at(name)) else disk.at("f")
         before = told_of(path)
         lines = b"begin\n1 put /f @f\n" + REPORTS + b"1 get /f @%s\n" % word + REPORTS
         ran = disk.play(lines)

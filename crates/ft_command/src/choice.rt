@@ -105,6 +105,10 @@ const EXAMPLE: &str = "Example:\n  ft play < script.ft\n  \
         ft play < script.ft | ft dot | dot -Tsvg > waits.svg\n  ft jobs build.plan\n  \
         ft load src > src.ft\n  ft jobs build.plan --after src.ft | ft save out";
 
+/// What the lines of a script and of a plan can do outside the tree.
+const FILES: &str =
+    "The lines 'put' and 'get' read and replace files of the disk, with your rights.";
+
 /// The version of the program, which is that of the library.
 const VERSION: &str = "0.1.0";
 
@@ -467,6 +471,7 @@ fn play_command<'a>(alloc: Global) -> Result<Command<'a>, AllocError>
 {
     let command = Command::new(alloc, "play")
         .about("Runs a script from standard input to standard output")
+        .after_help(FILES)
         .arg(strict_arg(alloc))?
         .arg(moss_arg(alloc))?
         .arg(after_arg(alloc))?;
@@ -525,6 +530,7 @@ fn jobs_command<'a>(alloc: Global) -> Result<Command<'a>, AllocError>
 {
     let command = Command::new(alloc, "jobs")
         .about("Runs the jobs of a plan in threads, and prints the outcome")
+        .after_help(FILES)
         .arg(file_arg(alloc))?
         .arg(turns_arg(alloc))?
         .arg(quiet_arg(alloc))?

@@ -1,2 +1,4 @@
+pub mod Committed
 pub mod Pairs
+pub mod Told
 pub mod Unrun

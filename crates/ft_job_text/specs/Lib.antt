@@ -1,4 +1,5 @@
 -- What callers cite.
+pub mod Gets
 pub mod Runs
 -- What the crate keeps true of itself.
 pub mod ProgressTexts

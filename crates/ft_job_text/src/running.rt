@@ -7,11 +7,14 @@ ghost use Rattle.ft_shared.specs.Victims.{WasVictim};
 ghost use Rattle.ft_shared.specs.Origins.{without_views};
 ghost use Rattle.ft_job_text.specs.Runs.{IsTextOfJobs, RunsPlan, StopsPlan, text_of_outcome};
 
-use crate::job_run::JobRun;
+use crate::gets::bytes_of_gets;
+use crate::job_run::{JobRun, PlanRun};
+use crate::plan_end::PlanEnd;
 use crate::text::OutcomeText;
 use crate::watched::run_jobs_shown;
 use ft_base::Memory;
-use ft_jobs::{Job, JobFault, JobsOutcome, Pace, Plan, are_met};
+use ft_jobs::{Job, JobFault, JobsOutcome, Plan, are_met};
+use ft_plan_files::GetPlace;
 use ft_record::Recorded;
 use ft_script::write_out;
 use ft_shared::{Shared, Sharing};
@@ -48,8 +51,8 @@ impl From<JobFault> for RunFault {
 
 /// Reads a plan, runs its jobs in threads on a core in which no transaction is live, and writes
 /// their outcome: the text is of this core, as the jobs left it. How far they have come is shown on
-/// a screen while they run, if there is one. Returns whether each job ended as the plan means,
-/// which is so of any plan that is not strict.
+/// a screen while they run, if there is one. Returns whether each job ended as the plan means, and
+/// what the `get`s got.
 ///
 /// A fault ends the run.
 /// - Jobs: the bytes are no plan, or there was not enough memory, a thread could not be started, or
@@ -59,49 +62,56 @@ pub fn run_plan<R: Threads + Wait + Clock + Sync, S: Write + Send + Drop, W: Wri
     rt: &R,
     alloc: Global,
     core: Recorded,
-    plan: &[u8],
-    pace: Pace,
-    screen: Option<S>,
+    run: PlanRun<'_, S>,
     writer: &mut W,
-) -> Result<bool, RunFault>
+) -> Result<PlanEnd, RunFault>
     requires { NoneIsLive core.state }
     ensures ok { IfOk result
-        (λ met. RunsPlan met core.state plan.now (W.contents writer.old) (W.contents writer.new)) }
+        (λ end. RunsPlan end core.state run.entry.plan.now (W.contents writer.old)
+        (W.contents writer.new)) }
     ensures fault { IfErr result
-        (λ fault. StopsPlan fault core.state plan.now (W.contents writer.old)
+        (λ fault. StopsPlan fault core.state run.entry.plan.now (W.contents writer.old)
         (W.contents writer.new)) }
 {
-    let plan = Plan::read(alloc, plan)?;
+    let PlanRun {
+        plan: written,
+        pace,
+        screen,
+    } = run;
+    let gets = written.gets.as_slice();
+    let plan = Plan::read(alloc, written.bytes.as_slice())?;
     let run = JobRun {
         plan: &plan,
         pace,
         screen,
     };
-    let (text, met) = text_of(rt, alloc, core, run)?;
+    let (text, end) = text_of(rt, alloc, core, run, gets)?;
     match write_out(writer, text.as_bytes()) {
-        Ok(()) => Ok(met),
+        Ok(()) => Ok(end),
         Err(_) => Err(RunFault::Write),
     }
 }
 
-/// Runs the jobs of a plan, and returns the text of their outcome, and whether that is as the plan
-/// means.
+/// Runs the jobs of a plan, and returns the text of their outcome, and how they ended.
 fn text_of<R: Threads + Wait + Clock + Sync, S: Write + Send + Drop>(
     rt: &R,
     alloc: Global,
     core: Recorded,
     run: JobRun<'_, S>,
-) -> Result<(String, bool), JobFault>
+    gets: &[GetPlace],
+) -> Result<(String, PlanEnd), JobFault>
     requires { NoneIsLive core.state }
     ensures ok { IfOk result
-        (λ told. IsTextOfJobs told.1 core.state run.entry.plan.now (string_bytes told.0)) }
+        (λ told. IsTextOfJobs told.1 gets.now core.state run.entry.plan.now (string_bytes told.0)) }
     ensures cause { IfErr result (λ fault. fault ≢ JobFault.BadPlan) }
 {
     let jobs = run.plan.jobs();
     let outcome = run_on::<Brand, R, S>(rt, alloc, core, run)?;
     let text = told(alloc, jobs, &outcome)?;
-    let met = are_met(jobs, outcome.reports.as_slice());
-    Ok((text, met))
+    let reports = outcome.reports.as_slice();
+    let met = are_met(jobs, reports);
+    let got = bytes_of_gets(alloc, jobs, reports, gets)?;
+    Ok((text, PlanEnd { met, got }))
 }
 
 /// Returns the text of the outcome of jobs.

@@ -1,12 +1,14 @@
 //! The line of a plan that is wrong, and the reason, in a sentence for its author.
 //!
 //! `ft_plan` decides what a plan is, and its clauses say so exactly. This crate only explains: no
-//! clause states which line it names. It is asked only about bytes that are no plan, in which
-//! numbers take the place of the names of steps.
+//! clause states which line it names. It is asked only about bytes that are no plan, in which steps
+//! take the place of the lines that carry files of the disk, and numbers the place of the names of
+//! steps.
 #![tactic(auto)]
 
 use ft_names::{is_descriptor_word, is_name};
-use ft_plan::{JobName, LONGEST_PLAN};
+use ft_plan::JobName;
+use ft_plan_files::line_of_file;
 use ft_words::{ParseError, Words, parse_call, parse_descriptor_call, parse_u64};
 use std::alloc::Global;
 
@@ -23,13 +25,14 @@ const NO_MUST: &str = "'must' is for strict plans";
 /// What is wrong with a call on what no step has opened.
 const NOT_OPENED: &str = "'@' needs the number or the name of an earlier step 'open' of the job";
 
-/// What is wrong with a plan that is too long.
-const TOO_LONG: &str = "it has more than 8,388,608 bytes, as it is or with numbers for its names";
+/// What is wrong with a line that carries no file of the disk.
+const NO_FILE: &str = "'put' and 'get' need just a path, and '@' with the name of a file of the \
+        disk (%20 is a space)";
 
 /// A mistake in a plan.
 #[derive(Clone, Copy)]
 pub struct Mistake {
-    /// The number of the line, if it is in one.
+    /// The number of the line of the plan's file, if it is in one.
     pub line: Option<u64>,
     /// The reason why it is wrong.
     pub why: &'static str,
@@ -55,19 +58,24 @@ fn wrong_whole(why: &'static str) -> Stop {
     Stop::Found(Mistake { line: None, why })
 }
 
-/// Returns the first mistake in the lines of a plan, or none if there is no memory to look for it.
-pub fn mistake_in(alloc: Global, text: &[u8]) -> Option<Mistake> {
-    match read_lines(alloc, text) {
-        Err(Stop::Found(mistake)) => Some(mistake),
-        _ => None,
-    }
+/// Returns the first mistake in the lines of a plan, by its line in the plan's file, or none if
+/// there is no memory to look for it.
+pub fn mistake_in(alloc: Global, file: &[u8], text: &[u8]) -> Option<Mistake> {
+    let Err(Stop::Found(mistake)) = read_lines(alloc, text) else {
+        return None;
+    };
+    let line = match mistake.line {
+        Some(line) => Some(line_of_file(alloc, file, line).ok()?),
+        None => None,
+    };
+    Some(Mistake {
+        line,
+        why: mistake.why,
+    })
 }
 
 /// Reads the lines of a plan, up to the first mistake.
 fn read_lines(alloc: Global, text: &[u8]) -> Result<(), Stop> {
-    if text.len() > LONGEST_PLAN {
-        return Err(wrong_whole(TOO_LONG));
-    }
     let mut jobs = Jobs {
         alloc,
         kind: PlanKind::Unknown,
@@ -358,6 +366,9 @@ impl<'a> Seen<'a> {
         }
         if is_descriptor_word(name) && is_unknown(&words) {
             return Err(wrong(line, NOT_OPENED));
+        }
+        if name == b"put".as_slice() || name == b"get".as_slice() {
+            return Err(wrong(line, NO_FILE));
         }
         match parse_call(alloc, name, words) {
             Ok(_) => Ok(name == b"open".as_slice()),

@@ -13,7 +13,6 @@ use Rattle.ft_plan.specs.declared.job.Step.{Step}
 use Rattle.ft_plan.specs.declared.job.Step.TheVariants as steps
 use Rattle.ft_plan.specs.declared.line.PlanLine.{PlanLine}
 use Rattle.ft_plan.specs.declared.line.PlanLine.TheVariants as line
-use Rattle.ft_plan.specs.declared.plan.TheConstants.{LONGEST_PLAN}
 use Rattle.ft_plan.specs.Lines.{line_of, behind_strict}
 
 -- ---- how a plan is written
@@ -164,9 +163,7 @@ most_jobs jobs = if list_any is_free jobs then 64 else 4096
 abbrev pub is_plan : List Job → Bool
 is_plan jobs = (nat_le 1 (length jobs) && nat_le (length jobs) (most_jobs jobs)) && (all_behind is_opened [] jobs && list_all (is_job jobs) jobs)
 
--- The bytes are at most 8,388,608, their lines are those of exactly these jobs, and the jobs are a
--- plan.
+-- The lines of the bytes are those of exactly these jobs, and the jobs are a plan.
 pub record IsPlanOf (bytes : List ℕ) (jobs : List Job) : Type 0 where
-  pub size : nat_le (length bytes) LONGEST_PLAN ≡ true
   pub lines : plan_said (lines_of bytes) ≡ Some (plan_lines jobs)
   pub rules : is_plan jobs ≡ true

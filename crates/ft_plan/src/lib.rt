@@ -12,4 +12,4 @@ mod rules;
 pub use fault::JobFault;
 pub use job::{Job, JobKind, Step};
 pub use name::JobName;
-pub use plan::{LONGEST_PLAN, Plan};
+pub use plan::Plan;

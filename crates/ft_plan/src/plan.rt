@@ -10,9 +10,6 @@ use ft_base::Sequence;
 use std::alloc::Global;
 use std::marker::Model;
 
-/// The most bytes of a plan.
-pub const LONGEST_PLAN: usize = 8_388_608;
-
 /// The jobs, in their order, with the steps of each. Clauses see it as the list of its jobs.
 ///
 /// There are 1 to 64 jobs, with names of their own; a subjob comes after its parent. The last step
@@ -39,8 +36,7 @@ impl Model for Plan {
 impl Plan {
     /// Returns the plan that these bytes are (docs/SCRIPT.md, plans).
     ///
-    /// Returns BadPlan exactly if they are none: at most 8,388,608 bytes are a plan. Any other
-    /// fault is Memory.
+    /// Returns BadPlan exactly if they are none. Any other fault is Memory.
     #[tactic(auto, using(crate::proofs::Grouping::only_plan))]
     pub fn read(alloc: Global, text: &[u8]) -> Result<Plan, JobFault>
         ensures plan { IfOk result (λ plan. IsPlanOf text.now plan) }
@@ -49,9 +45,6 @@ impl Plan {
         ensures cause { IfErr result
             (λ fault. (fault ≡ JobFault.BadPlan) ⊎ (fault ≡ JobFault.Memory)) }
     {
-        if text.len() > LONGEST_PLAN {
-            return Err(JobFault::BadPlan);
-        }
         let jobs = jobs_of(alloc, text)?;
         if !is_plan(jobs.as_slice()) {
             return Err(JobFault::BadPlan);

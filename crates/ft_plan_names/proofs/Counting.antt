@@ -1,25 +1,23 @@
 -- Just the steps of a plan are counted, and a plan without names has only lines without names.
-use Rattle.std.proofs.Common.{◌≡◌, ◌⊎◌, inl, inr, Option, Some, None, ℕ, Bool, true, false, cond, ◌&&◌, ◌||◌, not, List, [], ◌∷◌, ◌++◌, refl, sym, ap, subst, ◌∙◌}
+use Rattle.std.proofs.Common.{◌≡◌, Option, Some, None, ℕ, Bool, true, false, cond, ◌&&◌, ◌||◌, not, List, [], ◌∷◌, refl, sym, ap, subst, ◌∙◌}
 use Rattle.std.proofs.lemmas.Bool.{false≢true}
-use Rattle.std.proofs.lemmas.List.Folds.{list_all-append}
-use Rattle.std.specs.Prelude.{◌==◌, codes, option_and_then, option_map}
+use Rattle.std.specs.Prelude.{codes, option_and_then, option_map}
 use Rattle.std.specs.Cmp.Lexicographic.{bytes_decides}
-use Rattle.std.specs.List.{list_all, onto_first}
-use Rattle.std.specs.Option.{option_map_or}
 use Rattle.std.specs.Str.{bytes_eq}
 use Rattle.std.specs.Str.Lines.{strip_carriage_return}
-use Rattle.ft_words.specs.Spelling.{is_silent, lines_of, words_of}
+use Rattle.ft_words.specs.Spelling.{is_silent, words_of}
 use Rattle.ft_plan.specs.declared.job.Job.{Job}
 use Rattle.ft_plan.specs.declared.job.JobKind.{JobKind}
 use Rattle.ft_plan.specs.declared.job.JobKind.TheVariants.{Free, Strict, Must}
 use Rattle.ft_plan.specs.declared.job.Step.{Step}
 use Rattle.ft_plan.specs.declared.line.PlanLine.{PlanLine}
 use Rattle.ft_plan.specs.declared.line.PlanLine.TheVariants as line
-use Rattle.ft_plan.specs.Lines.{after_line, behind_strict, heading, is_strict_line, job_line, job_name_of, line_after, line_of, must_line, names_of, step_of, subheading}
-use Rattle.ft_plan.specs.Plans.{IsPlanOf, plan_lines, said}
-use Rattle.ft_plan_names.specs.Numbers.{all_lines, begins, is_plain, is_plain_line, is_step, numbered_plan}
+use Rattle.ft_plan.specs.Lines.{after_line, heading, is_strict_line, job_line, job_name_of, line_after, line_of, must_line, names_of, step_of, subheading}
+use Rattle.ft_plan.specs.Plans.{IsPlanOf}
+use Rattle.ft_plan_names.specs.Numbers.{begins, is_plain, is_plain_line, is_step, numbered_plan}
 use Rattle.ft_plan_names.specs.Laws.{is_job_line, is_step_line}
 use Rattle.ft_plan_names.proofs.Keeping.{text_is_plan}
+use Rattle.ft_plan_names.proofs.PlanLines.{Passes, plan_passes}
 use Rattle.ft_plan_names.proofs.Planned.{no_step, no_value, of_value, step_is_plain}
 
 -- ---- what a line says
@@ -137,89 +135,16 @@ strict_is_plain (word ∷ []) h = ap (λ s. not (not (bytes_eq word (codes "job"
     either false false = refl
 strict_is_plain (word ∷ other ∷ words) h = absurd (false≢true h)
 
--- lines that are plain, one after another
-plain_more : (line : List ℕ) (lines : List (List ℕ)) → is_plain_line line ≡ true → list_all is_plain_line lines ≡ true → list_all is_plain_line (line ∷ lines) ≡ true
-plain_more line lines h k = ap (λ b. b && list_all is_plain_line lines) h ∙ k
-
-abbrev words_if : Bool → List ℕ → Option (List (List ℕ))
-words_if silent text = cond silent None (Some (words_of text))
-
-said_is_plain : (strict : Bool) (lines : List (List ℕ)) (all : List PlanLine) → said strict lines ≡ Some all → list_all is_plain_line lines ≡ true
-said_is_plain strict [] all h = refl
-said_is_plain strict (line ∷ lines) all h = either (is_silent text) refl h (said_is_plain strict lines)
+plain_lines : Passes is_plain_line
+plain_lines = record {
+  silent = λ line is. ap (λ s. s || (not (is_step (words_of (strip_carriage_return line))) || is_plain (words_of (strip_carriage_return line)))) is;
+  says = λ strict line said is. or_true (is_silent (strip_carriage_return line)) _ (line_is_plain strict (words_of (strip_carriage_return line)) said is);
+  is_strict = λ line is. or_true (is_silent (strip_carriage_return line)) _ (strict_is_plain (words_of (strip_carriage_return line)) is);
+}
   where
-    text : List ℕ
-    text = strip_carriage_return line
-
-    onto : PlanLine → Option (List PlanLine)
-    onto first = option_map (λ more. first ∷ more) (said strict lines)
-
-    rest : (o : Option (List PlanLine)) → said strict lines ≡ o → (first : PlanLine) → option_map (λ more. first ∷ more) o ≡ Some all → ((more : List PlanLine) → said strict lines ≡ Some more → list_all is_plain_line lines ≡ true) → list_all is_plain_line lines ≡ true
-    rest None is first k again = no_value {P = _} None all refl k
-    rest (Some more) is first k again = again more is
-
-    both : (o : Option PlanLine) → line_of strict (words_of text) ≡ o → is_silent text ≡ false → option_and_then onto o ≡ Some all → ((more : List PlanLine) → said strict lines ≡ Some more → list_all is_plain_line lines ≡ true) → list_all is_plain_line (line ∷ lines) ≡ true
-    both None is loud k again = no_value {P = _} None all refl k
-    both (Some first) is loud k again =
-        plain_more line lines
-        (ap (λ s. s || (not (is_step (words_of text)) || is_plain (words_of text))) loud ∙ line_is_plain strict (words_of text) first is)
-        (rest (said strict lines) refl first k again)
-
-    either : (silent : Bool) → is_silent text ≡ silent → option_map_or (λ words. option_and_then onto (line_of strict words)) (words_if silent text) (said strict lines) ≡ Some all → ((more : List PlanLine) → said strict lines ≡ Some more → list_all is_plain_line lines ≡ true) → list_all is_plain_line (line ∷ lines) ≡ true
-    either true is k again = plain_more line lines (ap (λ s. s || (not (is_step (words_of text)) || is_plain (words_of text))) is) (again all k)
-    either false is k again = both (line_of strict (words_of text)) refl is k again
-
-strict_lines : (lines more : List (List ℕ)) → behind_strict lines ≡ Some more → list_all is_plain_line more ≡ true → list_all is_plain_line lines ≡ true
-strict_lines [] more h plain = no_value {P = _} None more refl h
-strict_lines (line ∷ lines) more h plain = either (is_silent text) refl h (λ k. strict_lines lines more k plain)
-  where
-    text : List ℕ
-    text = strip_carriage_return line
-
-    or_none : Option (List (List ℕ)) → List (List ℕ)
-    or_none None = []
-    or_none (Some ls) = ls
-
-    first : (b : Bool) → is_strict_line (words_of text) ≡ b → is_silent text ≡ false → cond b (Some lines) None ≡ Some more → list_all is_plain_line (line ∷ lines) ≡ true
-    first true is loud k =
-        plain_more line lines
-        (ap (λ s. s || (not (is_step (words_of text)) || is_plain (words_of text))) loud ∙ strict_is_plain (words_of text) is)
-        (subst (λ ls. list_all is_plain_line ls ≡ true) (sym (ap or_none k)) plain)
-    first false is loud k = no_value {P = _} None more refl k
-
-    either : (silent : Bool) → is_silent text ≡ silent → option_map_or (λ words. cond (is_strict_line words) (Some lines) None) (words_if silent text) (behind_strict lines) ≡ Some more → (behind_strict lines ≡ Some more → list_all is_plain_line lines ≡ true) → list_all is_plain_line (line ∷ lines) ≡ true
-    either true is k again = plain_more line lines (ap (λ s. s || (not (is_step (words_of text)) || is_plain (words_of text))) is) (again k)
-    either false is k again = first (is_strict_line (words_of text)) refl is k
-
-plan_is_plain : (lines : List (List ℕ)) (all : List PlanLine) (o : Option (List (List ℕ))) → behind_strict lines ≡ o → option_map_or (said true) o (said false lines) ≡ Some all → list_all is_plain_line lines ≡ true
-plan_is_plain lines all None is h = said_is_plain false lines all h
-plan_is_plain lines all (Some more) is h = strict_lines lines more is (said_is_plain true more all h)
-
--- the last line, after the last line feed, may be empty
-all_lines_are : (text : List ℕ) → (all_lines text ≡ lines_of text) ⊎ (all_lines text ≡ lines_of text ++ [] ∷ [])
-all_lines_are [] = inr refl
-all_lines_are (x ∷ xs) = either (x == 10) (all_lines_are xs)
-  where
-    onto_more : (lines : List (List ℕ)) → (onto_first x (lines ++ [] ∷ []) ≡ onto_first x lines) ⊎ (onto_first x (lines ++ [] ∷ []) ≡ onto_first x lines ++ [] ∷ [])
-    onto_more [] = inl refl
-    onto_more (line ∷ lines) = inr refl
-
-    both : (all lines : List (List ℕ)) → all ≡ lines ++ [] ∷ [] → (onto_first x (lines ++ [] ∷ []) ≡ onto_first x lines) ⊎ (onto_first x (lines ++ [] ∷ []) ≡ onto_first x lines ++ [] ∷ []) → (onto_first x all ≡ onto_first x lines) ⊎ (onto_first x all ≡ onto_first x lines ++ [] ∷ [])
-    both all lines is (inl h) = inl (ap (onto_first x) is ∙ h)
-    both all lines is (inr h) = inr (ap (onto_first x) is ∙ h)
-
-    either : (b : Bool) → (all_lines xs ≡ lines_of xs) ⊎ (all_lines xs ≡ lines_of xs ++ [] ∷ []) → (cond b ([] ∷ all_lines xs) (onto_first x (all_lines xs)) ≡ cond b ([] ∷ lines_of xs) (onto_first x (lines_of xs))) ⊎ (cond b ([] ∷ all_lines xs) (onto_first x (all_lines xs)) ≡ cond b ([] ∷ lines_of xs) (onto_first x (lines_of xs)) ++ [] ∷ [])
-    either true (inl h) = inl (ap (λ ls. [] ∷ ls) h)
-    either true (inr h) = inr (ap (λ ls. [] ∷ ls) h)
-    either false (inl h) = inl (ap (onto_first x) h)
-    either false (inr h) = both (all_lines xs) (lines_of xs) h (onto_more (lines_of xs))
-
-all_are_plain : (text : List ℕ) → list_all is_plain_line (lines_of text) ≡ true → list_all is_plain_line (all_lines text) ≡ true
-all_are_plain text plain = either (all_lines_are text)
-  where
-    either : (all_lines text ≡ lines_of text) ⊎ (all_lines text ≡ lines_of text ++ [] ∷ []) → list_all is_plain_line (all_lines text) ≡ true
-    either (inl h) = ap (list_all is_plain_line) h ∙ plain
-    either (inr h) = ap (list_all is_plain_line) h ∙ list_all-append is_plain_line (lines_of text) ([] ∷ []) ∙ ap (λ b. b && true) plain
+    or_true : (a b : Bool) → b ≡ true → (a || b) ≡ true
+    or_true true b h = refl
+    or_true false b h = h
 
 pub plan_stays : (bytes : List ℕ) (jobs : List Job) → IsPlanOf bytes jobs → numbered_plan bytes ≡ bytes
-plan_stays bytes jobs plan = text_is_plan bytes (all_are_plain bytes (plan_is_plain (lines_of bytes) (plan_lines jobs) (behind_strict (lines_of bytes)) refl plan.lines))
+plan_stays bytes jobs plan = text_is_plan bytes (plan_passes is_plain_line plain_lines refl bytes jobs plan)

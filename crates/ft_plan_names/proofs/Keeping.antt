@@ -2,7 +2,7 @@
 use Rattle.std.proofs.Common.{◌≡◌, Option, Some, None, ℕ, ◌-◌, ◌≤◌, Bool, true, false, cond, ◌&&◌, ◌||◌, not, List, [], ◌∷◌, ◌++◌, length, take, drop, refl, ap, ◌∙◌, arith, append-nil, length-take-le, take-append-drop, drop_of_length-le}
 use Rattle.std.proofs.lemmas.Bool.{and_parts, false≢true}
 use Rattle.std.proofs.lemmas.List.Splits.{join_with_byte-slice_split}
-use Rattle.std.specs.Prelude.{codes, is_some, nat_le}
+use Rattle.std.specs.Prelude.{codes, is_some}
 use Rattle.std.specs.Fmt.{decimal}
 use Rattle.std.specs.List.{join_with_byte, list_all}
 use Rattle.std.specs.Option.{option_map_or}
@@ -11,10 +11,8 @@ use Rattle.std.specs.Str.Lines.{strip_carriage_return}
 use Rattle.ft_words.specs.Calls.{descriptor_calls, look_up}
 use Rattle.ft_words.specs.Spelling.{is_silent, words_of}
 use Rattle.ft_names.specs.Names.{Naming}
-use Rattle.ft_plan.specs.declared.plan.TheConstants.{LONGEST_PLAN}
 use Rattle.ft_plan_names.specs.Numbers.{Numbering, after_line, all_lines, call_has_name, is_at_name, is_plain, is_plain_line, is_plain_text, is_step, line_end, name_given, no_steps, number_word, numbered_call, numbered_line, numbered_lines, numbered_plan, numbered_step, numbered_text, numbered_tried, spaced, tried_has_name}
 use Rattle.ft_plan_names.proofs.Spacing.{spaced_words}
-use Rattle.ft_plan_names.proofs.Lining.{text_of}
 
 word_stays : (names : Naming) (word : List ℕ) → is_at_name word ≡ false → number_word names word ≡ word
 word_stays names [] none = refl
@@ -79,8 +77,4 @@ lines_stay steps (line ∷ lines) plain =
     ap (λ l. l ∷ numbered_lines (after_line steps line) lines) (line_stays steps line both.0) ∙ ap (λ ls. line ∷ ls) (lines_stay (after_line steps line) lines both.1)
 
 pub text_is_plan : (text : List ℕ) → list_all is_plain_line (all_lines text) ≡ true → numbered_plan text ≡ text
-text_is_plan text plain = either (nat_le (length text) LONGEST_PLAN)
-  where
-    either : (b : Bool) → cond b (text_of no_steps (all_lines text)) text ≡ text
-    either true = ap (join_with_byte 10) (lines_stay no_steps (all_lines text) plain) ∙ join_with_byte-slice_split 10 text
-    either false = refl
+text_is_plan text plain = ap (join_with_byte 10) (lines_stay no_steps (all_lines text) plain) ∙ join_with_byte-slice_split 10 text

@@ -1,6 +1,7 @@
-pub mod Spacing
-pub mod Lining
-pub mod Keeping
-pub mod Planned
 pub mod Counting
+pub mod Keeping
+pub mod Lining
 pub mod Places
+pub mod PlanLines
+pub mod Planned
+pub mod Spacing

@@ -1,8 +1,8 @@
 -- Each line keeps its place.
-use Rattle.std.proofs.Common.{◌≡◌, Option, Some, None, ℕ, zero, suc, ◌+◌, ◌<◌, ◌/◌, ◌%◌, Bool, true, false, cond, ◌||◌, List, [], ◌∷◌, ◌++◌, length, take, refl, sym, ap, subst, ◌∙◌, arith}
+use Rattle.std.proofs.Common.{◌≡◌, Option, Some, None, ℕ, zero, suc, ◌+◌, ◌<◌, ◌/◌, ◌%◌, Bool, true, false, cond, ◌||◌, List, [], ◌∷◌, ◌++◌, length, take, refl, sym, ap, ◌∙◌, arith}
 use Rattle.std.proofs.lemmas.Bool.{eqb-true}
 use Rattle.std.proofs.lemmas.List.Folds.{list_any-append}
-use Rattle.std.specs.Prelude.{◌==◌, codes, is_some, nat_le, nat_lt}
+use Rattle.std.specs.Prelude.{◌==◌, codes, is_some, nat_lt}
 use Rattle.std.specs.Fmt.{decimal, digit_glyph, digits, digits_onto}
 use Rattle.std.specs.List.{join_with_byte, list_any, onto_first}
 use Rattle.std.specs.Option.{option_map_or}
@@ -12,10 +12,9 @@ use Rattle.ft_words.proofs.Bytes.{is_false, neither}
 use Rattle.ft_words.specs.Calls.{descriptor_calls, look_up}
 use Rattle.ft_words.specs.Spelling.{IsFreeOf, is_silent, words_of}
 use Rattle.ft_names.specs.Names.{Naming}
-use Rattle.ft_plan.specs.declared.plan.TheConstants.{LONGEST_PLAN}
 use Rattle.ft_plan_names.specs.Numbers.{Numbering, after_line, all_lines, is_open, is_step, line_end, name_given, no_steps, number_first, number_word, numbered_call, numbered_line, numbered_lines, numbered_plan, numbered_step, numbered_text, numbered_tried, spaced, step_named}
 use Rattle.ft_plan_names.proofs.Keeping.{whole}
-use Rattle.ft_plan_names.proofs.Lining.{lines_cut, lines_free, lines_some, numbered_some, text_of}
+use Rattle.ft_plan_names.proofs.Lining.{lines_cut, lines_free, lines_some, numbered_some}
 
 -- none of them has a line feed
 abbrev AllFree : List (List ℕ) → Type 0
@@ -150,7 +149,6 @@ lines_joined [] some free = absurd (omega arith)
 lines_joined (line ∷ []) some free = lines_free line free.0
 lines_joined (line ∷ next ∷ lines) some free = lines_cut line (join_with_byte 10 (next ∷ lines)) free.0 ∙ ap (λ ls. line ∷ ls) (lines_joined (next ∷ lines) (omega arith) free.1)
 
-pub lines_keep_places : (text : List ℕ) → nat_le (length text) LONGEST_PLAN ≡ true → all_lines (numbered_plan text) ≡ numbered_lines no_steps (all_lines text)
-lines_keep_places text fits =
-    ap (λ b. all_lines (cond b (text_of no_steps (all_lines text)) text)) fits
-    ∙ lines_joined (numbered_lines no_steps (all_lines text)) (numbered_some no_steps (all_lines text) (lines_some text)) (all_free no_steps (all_lines text) (lines_are_free text))
+pub lines_keep_places : (text : List ℕ) → all_lines (numbered_plan text) ≡ numbered_lines no_steps (all_lines text)
+lines_keep_places text =
+    lines_joined (numbered_lines no_steps (all_lines text)) (numbered_some no_steps (all_lines text) (lines_some text)) (all_free no_steps (all_lines text) (lines_are_free text))

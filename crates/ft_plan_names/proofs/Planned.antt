@@ -78,7 +78,7 @@ on_descriptor word words h =
 in_all : (word : List ℕ) (words : List (List ℕ)) → parse_u64 word ≡ None → Each (λ row. parse_call row.0 (word ∷ words) ≡ None) descriptor_calls
 in_all word words h = on_descriptor word words h
 
-call_none : (name : List ℕ) (words : List (List ℕ)) → on_opened name words ≡ None → parse_call name words ≡ None → call_step name words ≡ None
+pub call_none : (name : List ℕ) (words : List (List ℕ)) → on_opened name words ≡ None → parse_call name words ≡ None → call_step name words ≡ None
 call_none name words h k = ap (λ o. option_map_or Some o (option_map steps.Call (parse_call name words))) h ∙ map_none steps.Call (parse_call name words) k
 
 -- a call on a descriptor that has `@` and a name is no step
@@ -116,7 +116,7 @@ call_is_plain name (word ∷ words) step h = either (is_some (look_up descriptor
 -- ---- an open with too many words
 
 -- a word that is no name of a call on a descriptor has none in a plan
-not_on : (name : List ℕ) (words : List (List ℕ)) → look_up descriptor_calls name ≡ None → on_opened name words ≡ None
+pub not_on : (name : List ℕ) (words : List (List ℕ)) → look_up descriptor_calls name ≡ None → on_opened name words ≡ None
 not_on name words h = map_none _ _ (either (stripped 64 words))
   where
     either : (o : Option (List (List ℕ))) → option_and_then (read_by descriptor_calls name) o ≡ None

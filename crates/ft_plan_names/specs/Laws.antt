@@ -1,10 +1,9 @@
 -- What numbers in place of names leave as it is, and which lines are counted.
-use Rattle.std.specs.Prelude.{◌≡◌, ℕ, Bool, true, false, nat_le, List, length, codes, Some}
+use Rattle.std.specs.Prelude.{◌≡◌, ℕ, Bool, true, false, List, codes, Some}
 use Rattle.std.specs.List.{list_all}
 use Rattle.ft_plan.specs.declared.job.Job.{Job}
 use Rattle.ft_plan.specs.declared.line.PlanLine.{PlanLine}
 use Rattle.ft_plan.specs.declared.line.PlanLine.TheVariants as line
-use Rattle.ft_plan.specs.declared.plan.TheConstants.{LONGEST_PLAN}
 use Rattle.ft_plan.specs.Lines.{line_of}
 use Rattle.ft_plan.specs.Plans.{IsPlanOf}
 use Rattle.ft_plan_names.specs.Numbers.{Numbering, all_lines, begins, is_plain_line, is_step, no_steps, numbered_line, numbered_lines, numbered_plan}
@@ -23,7 +22,7 @@ PlanLaw = (bytes : List ℕ) (jobs : List Job) → IsPlanOf bytes jobs → numbe
 
 -- Each line keeps its place.
 abbrev pub PlaceLaw : Type 0
-PlaceLaw = (text : List ℕ) → nat_le (length text) LONGEST_PLAN ≡ true → all_lines (numbered_plan text) ≡ numbered_lines no_steps (all_lines text)
+PlaceLaw = (text : List ℕ) → all_lines (numbered_plan text) ≡ numbered_lines no_steps (all_lines text)
 
 -- whether a line of a plan is a step
 abbrev pub is_step_line : PlanLine → Bool

@@ -1,6 +1,6 @@
 -- A plan in which names stand for the numbers of steps. (The format is this project's own:
 -- docs/SCRIPT.md, Plans.)
-use Rattle.std.specs.Prelude.{◌==◌, ◌&&◌, ◌||◌, not, ℕ, suc, Bool, false, nat_le, List, [], ◌∷◌, ◌++◌, length, drop, codes, if◌then◌else◌, Option, None, Some, is_some, option_map}
+use Rattle.std.specs.Prelude.{◌==◌, ◌&&◌, ◌||◌, not, ℕ, suc, Bool, false, List, [], ◌∷◌, ◌++◌, length, drop, codes, if◌then◌else◌, Option, None, Some, is_some, option_map}
 use Rattle.std.specs.Fmt.{decimal}
 use Rattle.std.specs.List.{join_with_byte, slice_split}
 use Rattle.std.specs.Option.{option_map_or}
@@ -10,7 +10,6 @@ use Rattle.ft_words.specs.Spelling.{is_silent, words_of}
 use Rattle.ft_words.specs.Calls.{descriptor_calls, look_up}
 use Rattle.ft_names.specs.Names.{Naming, is_name, names_of, no_names, with_name}
 use Rattle.ft_names.specs.Meanings.{split_name}
-use Rattle.ft_plan.specs.declared.plan.TheConstants.{LONGEST_PLAN}
 use Rattle.ft_plan_names.specs.declared.steps.Steps.{Steps}
 
 -- ---- the words of a step
@@ -130,10 +129,9 @@ numbered_lines steps (line ∷ lines) = numbered_line steps line ∷ numbered_li
 abbrev pub all_lines : List ℕ → List (List ℕ)
 all_lines text = slice_split (λ b. b == 10) text
 
--- A plan with numbers in place of names, line for line. A text that is too long for a plan is left
--- as it is.
+-- a plan with numbers in place of names, line for line
 abbrev pub numbered_plan : List ℕ → List ℕ
-numbered_plan text = if nat_le (length text) LONGEST_PLAN then join_with_byte 10 (numbered_lines no_steps (all_lines text)) else text
+numbered_plan text = join_with_byte 10 (numbered_lines no_steps (all_lines text))
 
 -- what `Steps` holds
 abbrev pub numbering_of : Steps → Numbering

@@ -7,3 +7,4 @@ mod numbering;
 mod steps;
 
 pub use numbering::numbered_plan;
+pub use steps::{begins_job, is_silent, is_step};

@@ -1,6 +1,5 @@
 // A plan with numbers in place of the names of steps.
-ghost use Rattle.std.specs.Prelude.{◌≡◌, ◌++◌, ◌≤◌, suc, IfOk, OnOk};
-ghost use Rattle.ft_plan.specs.declared.plan.TheConstants.{LONGEST_PLAN};
+ghost use Rattle.std.specs.Prelude.{◌≡◌, ◌++◌, ◌-◌, ◌^◌, ◌<◌, ◌≤◌, suc, IfOk, OnOk};
 ghost use Rattle.ft_words.specs.Spelling.{words_left, words_of};
 ghost use Rattle.ft_names.specs.Names.{names_of};
 ghost use Rattle.ft_plan_names.specs.Numbers.{after_line, after_step, after_text, number_first, number_word, numbered_call, numbered_line, numbered_plan, numbered_step, numbered_text, numbered_tried, numbering_of, spaced, words_behind};
@@ -8,22 +7,16 @@ ghost use Rattle.ft_plan_names.specs.Numbers.{after_line, after_step, after_text
 use crate::steps::{Steps, begins_job, is_silent, is_step, name_given, step_named};
 use ft_base::Memory;
 use ft_names::{Names, is_descriptor_word, split_first, without_return};
-use ft_plan::LONGEST_PLAN;
 use ft_words::split_once;
 use std::alloc::Global;
 
 /// Returns a plan with the same lines, in which numbers take the place of the names of steps.
 ///
-/// A name that no earlier step of its job has given stays, and so its line is no line of a plan. A
-/// text that has more than 8,388,608 bytes is returned as it is.
+/// A name that no earlier step of its job has given stays, and so its line is no line of a plan.
 pub fn numbered_plan(alloc: Global, text: &[u8]) -> Result<Vec<u8>, Memory>
     ensures { IfOk result (λ made. made.items ≡ numbered_plan text.now) }
 {
     let mut made = Vec::new(alloc);
-    if text.len() > LONGEST_PLAN {
-        made.extend_from_slice(text)?;
-        return Ok(made);
-    }
     let mut steps = Steps::none(alloc);
     let mut rest = text;
     while let Some((line, more)) = split_once(b'\n', rest) {
@@ -38,7 +31,7 @@ pub fn numbered_plan(alloc: Global, text: &[u8]) -> Result<Vec<u8>, Memory>
 /// Puts a line, and counts it if it is a step.
 #[tactic(auto, using(crate::proofs::Spacing::line_put, crate::proofs::Spacing::strip_shorter))]
 fn put_line(alloc: Global, made: &mut Vec<u8>, steps: &mut Steps, line: &[u8]) -> Result<(), Memory>
-    requires { steps.old.count ≤ LONGEST_PLAN }
+    requires { steps.old.count < 2 ^ 64 - 1 }
     ensures made { OnOk result (made.new.items
         ≡ made.old.items ++ numbered_line (numbering_of steps.old) line.now) }
     ensures steps { OnOk result
@@ -53,7 +46,7 @@ fn put_line(alloc: Global, made: &mut Vec<u8>, steps: &mut Steps, line: &[u8]) -
 
 /// Puts a line without a carriage return at its end, and counts it if it is a step.
 fn put_text(alloc: Global, made: &mut Vec<u8>, steps: &mut Steps, text: &[u8]) -> Result<(), Memory>
-    requires { steps.old.count ≤ LONGEST_PLAN }
+    requires { steps.old.count < 2 ^ 64 - 1 }
     ensures made { OnOk result (made.new.items
         ≡ made.old.items ++ numbered_text (numbering_of steps.old) text.now) }
     ensures steps { OnOk result
@@ -75,7 +68,7 @@ fn put_text(alloc: Global, made: &mut Vec<u8>, steps: &mut Steps, text: &[u8]) -
 
 /// Puts a step, and counts it.
 fn put_step(alloc: Global, made: &mut Vec<u8>, steps: &mut Steps, text: &[u8]) -> Result<(), Memory>
-    requires { steps.old.count ≤ LONGEST_PLAN }
+    requires { steps.old.count < 2 ^ 64 - 1 }
     ensures made { OnOk result (made.new.items
         ≡ made.old.items ++ spaced (numbered_step (names_of steps.old.names) (words_of text.now))) }
     ensures steps { OnOk result

@@ -1,6 +1,5 @@
 // The steps of a job, and what the words of one have to do with names.
-ghost use Rattle.std.specs.Prelude.{◌≡◌, ◌≤◌, codes, option_copied, Some, None, MatchOption, OnOk};
-ghost use Rattle.ft_plan.specs.declared.plan.TheConstants.{LONGEST_PLAN};
+ghost use Rattle.std.specs.Prelude.{◌≡◌, ◌-◌, ◌^◌, ◌<◌, codes, option_copied, Some, None, MatchOption, OnOk};
 ghost use Rattle.ft_words.specs.Spelling.{is_silent, words_of};
 ghost use Rattle.ft_names.specs.Names.{names_of};
 ghost use Rattle.ft_plan_names.specs.Numbers.{add_step, begins, is_open, is_step, name_given, no_steps, numbering_of, step_named};
@@ -32,7 +31,7 @@ impl Steps {
     /// Counts one more step, and lets the name that it gives, if it gives one, stand for its
     /// number.
     pub(crate) fn add(&mut self, alloc: Global, given: Option<&[u8]>) -> Result<(), Memory>
-        requires { self.old.count ≤ LONGEST_PLAN }
+        requires { self.old.count < 2 ^ 64 - 1 }
         ensures { OnOk result
             (numbering_of self.new ≡ add_step (numbering_of self.old) (option_copied given.entry)) }
     {
@@ -47,7 +46,7 @@ impl Steps {
 
 /// Returns whether a line without a carriage return at its end says nothing: it is empty or a
 /// comment.
-pub(crate) fn is_silent(text: &[u8]) -> bool
+pub fn is_silent(text: &[u8]) -> bool
     ensures { result ≡ is_silent text.now }
 {
     matches!(text.first(), None | Some(b'#'))
@@ -55,7 +54,7 @@ pub(crate) fn is_silent(text: &[u8]) -> bool
 
 /// Returns whether words are a step, and not a line that begins a job or a strict plan, or says
 /// what a job comes after.
-pub(crate) fn is_step(text: &[u8]) -> bool
+pub fn is_step(text: &[u8]) -> bool
     ensures { result ≡ is_step (words_of text.now) }
 {
     let (first, _) = split_first(text);
@@ -63,7 +62,7 @@ pub(crate) fn is_step(text: &[u8]) -> bool
 }
 
 /// Returns whether words begin a job.
-pub(crate) fn begins_job(text: &[u8]) -> bool
+pub fn begins_job(text: &[u8]) -> bool
     ensures { result ≡ begins (codes "job") (words_of text.now) }
 {
     split_first(text).0 == b"job".as_slice()

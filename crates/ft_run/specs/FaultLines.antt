@@ -8,6 +8,8 @@ use Rattle.ft_copy.specs.declared.copy_fault.CopyStop.{CopyStop}
 use Rattle.ft_copy.specs.declared.copy_fault.CopyFault.{CopyFault}
 use Rattle.ft_copy.specs.declared.copy_fault.CopyFault.TheVariants as troubles
 use Rattle.ft_plan.specs.declared.fault.JobFault.TheVariants as jobs
+use Rattle.ft_plan_files.specs.declared.fault.PlanFileFault.{PlanFileFault}
+use Rattle.ft_plan_files.specs.declared.fault.PlanFileFault.TheVariants as plan
 use Rattle.ft_script.specs.declared.playing.PlayFault.{PlayFault}
 use Rattle.ft_script.specs.declared.playing.PlayFault.TheVariants.{Memory, Read, Write, TooLong, Turns}
 use Rattle.ft_script.specs.declared.strictly.FailedLine.{FailedLine}
@@ -33,6 +35,16 @@ run_fault_line (run.Jobs jobs.BadPlan) = codes "fault: BadPlan" ++ 10 ∷ []
 run_fault_line (run.Jobs jobs.Mismatch) = codes "fault: Mismatch" ++ 10 ∷ []
 run_fault_line (run.Jobs jobs.Thread) = codes "fault: Thread" ++ 10 ∷ []
 run_fault_line run.Write = fault_line Write
+
+-- the same of a plan that is not written out
+abbrev pub plan_file_fault_line : PlanFileFault → List ℕ
+plan_file_fault_line plan.Memory = fault_line Memory
+plan_file_fault_line plan.TooLong = run_fault_line (run.Jobs jobs.BadPlan)
+plan_file_fault_line plan.Read = fault_line Read
+
+-- the same of a file of the disk that could not be written
+abbrev pub unwritten_line : List ℕ → List ℕ
+unwritten_line file = codes "fault: Write" ++ data_text file ++ 10 ∷ []
 
 -- a line of a strict script as it is shown: without the one carriage return at its end, and at
 -- most 200 bytes of it

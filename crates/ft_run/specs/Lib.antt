@@ -1,4 +1,5 @@
 -- What callers cite.
 pub mod FaultLines
+pub mod Giving
 pub mod SavesInto
 pub mod Statuses

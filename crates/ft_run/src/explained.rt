@@ -5,6 +5,7 @@ use crate::faults::{fault_line, run_fault_line};
 use ft_job_text::RunFault;
 use ft_jobs::JobFault;
 use ft_mistakes::mistake_in;
+use ft_plan_files::WrittenPlan;
 use ft_script::{PlayFault, write_out};
 use std::alloc::AllocError;
 use std::io;
@@ -48,8 +49,12 @@ fn say_text(rt: &HostRuntime, sentence: &str) {
 /// The input of a command.
 #[derive(Clone, Copy)]
 enum Input<'a> {
-    // the bytes in a file of this name, which should be a plan
-    Plan { file: &'a str, bytes: &'a [u8] },
+    // the text in a file of this name, written out as these bytes, which should be a plan
+    Plan {
+        file: &'a str,
+        text: &'a [u8],
+        bytes: &'a [u8],
+    },
     // a script, whose lines should not be too long
     Script,
     // a directory on disk, which should be within the limits
@@ -68,9 +73,16 @@ pub struct Explained<'a> {
 }
 
 impl<'a> Explained<'a> {
-    /// Returns standard error for a command that runs a plan from a file of this name.
-    pub fn of_plan(rt: &'a HostRuntime, file: &'a str, bytes: &'a [u8]) -> Explained<'a> {
-        Explained::of(rt, Input::Plan { file, bytes })
+    /// Returns standard error for a command that runs a plan from a file of this name. The file has
+    /// this text.
+    pub fn of_plan(
+        rt: &'a HostRuntime,
+        file: &'a str,
+        text: &'a [u8],
+        plan: &'a WrittenPlan,
+    ) -> Explained<'a> {
+        let bytes = plan.bytes.as_slice();
+        Explained::of(rt, Input::Plan { file, text, bytes })
     }
 
     /// Returns standard error for a run of a script.
@@ -100,9 +112,9 @@ impl<'a> Explained<'a> {
     /// Prints what is wrong with the input, if this line reports it.
     fn explain(&self, line: &[u8]) {
         match self.input {
-            Input::Plan { file, bytes } => {
+            Input::Plan { file, text, bytes } => {
                 if line == run_fault_line(RunFault::Jobs(JobFault::BadPlan)).as_bytes() {
-                    explain_plan(self.rt, file, bytes);
+                    explain_plan(self.rt, file, text, bytes);
                 }
             }
             Input::Script => {
@@ -134,9 +146,9 @@ fn explain_limits(rt: &HostRuntime, line: &[u8]) {
 }
 
 /// Prints which line of a plan is wrong, and why.
-fn explain_plan(rt: &HostRuntime, file: &str, bytes: &[u8]) {
+fn explain_plan(rt: &HostRuntime, file: &str, text: &[u8], bytes: &[u8]) {
     let alloc = rt.alloc();
-    let Some(mistake) = mistake_in(alloc, bytes) else {
+    let Some(mistake) = mistake_in(alloc, text, bytes) else {
         return;
     };
     let why = mistake.why;

@@ -1,10 +1,11 @@
 // The line that reports a fault.
 ghost use Rattle.std.specs.Prelude.{◌≡◌};
-ghost use Rattle.ft_run.specs.FaultLines.{fault_line, run_fault_line, trouble_name};
+ghost use Rattle.ft_run.specs.FaultLines.{fault_line, plan_file_fault_line, run_fault_line, trouble_name};
 
 use ft_copy::CopyFault;
 use ft_job_text::RunFault;
 use ft_jobs::JobFault;
+use ft_plan_files::PlanFileFault;
 use ft_script::PlayFault;
 
 /// Returns the line that reports a fault, with its line feed.
@@ -30,6 +31,17 @@ pub fn run_fault_line(fault: RunFault) -> &'static str
         RunFault::Jobs(JobFault::Mismatch) => "fault: Mismatch\n",
         RunFault::Jobs(JobFault::Thread) => "fault: Thread\n",
         RunFault::Write => fault_line(PlayFault::Write),
+    }
+}
+
+/// Returns the line that reports why a plan is not written out, with its line feed.
+pub fn plan_file_fault_line(fault: PlanFileFault) -> &'static str
+    ensures { result.now ≡ plan_file_fault_line fault }
+{
+    match fault {
+        PlanFileFault::Memory => fault_line(PlayFault::Memory),
+        PlanFileFault::TooLong => run_fault_line(RunFault::Jobs(JobFault::BadPlan)),
+        PlanFileFault::Read => fault_line(PlayFault::Read),
     }
 }
 

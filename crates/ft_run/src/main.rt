@@ -17,6 +17,7 @@ mod disk_source;
 mod disk_target;
 mod explained;
 mod faults;
+mod gets;
 mod giving;
 mod held;
 mod into;
@@ -38,10 +39,10 @@ use crate::disk_maker::DiskMaker;
 use crate::disk_source::DiskSource;
 use crate::disk_target::DiskTarget;
 use crate::explained::{Explained, say};
-use crate::faults::fault_line;
+use crate::faults::{fault_line, plan_file_fault_line};
 use crate::giving::is_superuser;
 use crate::into::{Into, into_status};
-use crate::script_files::ScriptFiles;
+use crate::script_files::{PlanFiles, ScriptFiles};
 use crate::skipping::SkippingSource;
 use crate::status::{
     dot_status, jobs_status, load_status, play_status, report_fault, report_setup_fault,
@@ -53,11 +54,12 @@ use ft_command::{AskedLimits, AskedSave, Choice, choose};
 use ft_copy::{CopyLimits, Source};
 use ft_core::{Core, Limits, Rule};
 use ft_into::Wishes;
-use ft_jobs::{LONGEST_PLAN, Pace};
+use ft_job_text::PlanRun;
+use ft_jobs::Pace;
 use ft_load::{Form, Spelling, needs_of};
 use ft_needs::{limits_for, raised_for};
 use ft_path::FilePath;
-use ft_plan_names::numbered_plan;
+use ft_plan_files::{LONGEST_PLAN, PlanFileFault, WrittenPlan, written_plan};
 use ft_record::Recorded;
 use ft_screen::ShownTarget;
 use ft_script::{PlayFault, SetupFault, core_with_setup, write_out};
@@ -112,19 +114,22 @@ fn main(rt: HostRuntime) -> ExitCode {
             after,
             limits,
         } => match begun_jobs(&rt, file.as_str(), rule, limits, after) {
-            Ok((core, plan)) => jobs_status(
+            Ok(begun) => jobs_status(
                 &rt,
                 alloc,
-                core,
-                plan.as_slice(),
-                Pace {
-                    turns: pace.turns,
-                    threads: pace.threads,
-                    retries: pace.retries,
+                begun.core,
+                PlanRun {
+                    plan: &begun.plan,
+                    pace: Pace {
+                        turns: pace.turns,
+                        threads: pace.threads,
+                        retries: pace.retries,
+                    },
+                    screen: screen(&rt, quiet),
                 },
-                screen(&rt, quiet),
+                &begun.files,
                 &mut rt.stdout(),
-                &mut Explained::of_plan(&rt, file.as_str(), plan.as_slice()),
+                &mut Explained::of_plan(&rt, file.as_str(), begun.text.as_slice(), &begun.plan),
             ),
             Err(status) => status,
         },
@@ -179,28 +184,67 @@ fn fault_of(error: &io::Error) -> PlayFault {
     }
 }
 
-/// Returns the core and the plan of a run of jobs, with numbers in place of the names of steps. If
-/// one of them could not be had, that was reported, and the error is the status to end with.
-fn begun_jobs(
-    rt: &HostRuntime,
+/// A run of the jobs of a plan that can start.
+#[derive(Drop)]
+struct BegunJobs<'rt> {
+    core: Recorded,
+    /// The text of the file of the plan.
+    text: Vec<u8>,
+    plan: WrittenPlan,
+    /// The files of the disk that the plan may name.
+    files: PlanFiles<'rt>,
+}
+
+/// Returns the run of the plan in a file. If its core or the plan could not be had, that was
+/// reported, and the error is the status to end with.
+fn begun_jobs<'rt>(
+    rt: &'rt HostRuntime,
     file: &str,
     rule: Rule,
     asked: AskedLimits,
     after: Option<String>,
-) -> Result<(Recorded, Vec<u8>), u8>
-    ensures { IfOk result (λ begun. NoneIsLive begun.0.state) }
+) -> Result<BegunJobs<'rt>, u8>
+    ensures { IfOk result (λ begun. NoneIsLive begun.core.state) }
 {
-    let Ok(core) = Recorded::of(core_for(rt, rule, asked, Limits::default(), after)?) else {
-        return Err(report_fault(&mut rt.stderr(), fault_line(PlayFault::Memory)));
-    };
+    let core = core_for(rt, rule, asked, Limits::default(), after)?;
+    let files = PlanFiles::new(rt, core.limits().file_size);
+    let (text, plan) = plan_in(rt, file, &files)?;
+    match Recorded::of(core) {
+        Ok(core) => Ok(BegunJobs {
+            core,
+            text,
+            plan,
+            files,
+        }),
+        Err(_) => Err(report_fault(&mut rt.stderr(), fault_line(PlayFault::Memory))),
+    }
+}
+
+/// Returns the text of a file, and the plan that it is. If there is none, that was reported.
+fn plan_in(
+    rt: &HostRuntime,
+    file: &str,
+    files: &PlanFiles<'_>,
+) -> Result<(Vec<u8>, WrittenPlan), u8> {
     let text = match read_file(rt, file, LONGEST_PLAN as u64 + 1) {
         Ok(text) => text,
         Err(error) => return Err(unread(rt, "the plan", file, &error)),
     };
-    match numbered_plan(rt.alloc(), text.as_slice()) {
-        Ok(plan) => Ok((core, plan)),
-        Err(_) => Err(report_fault(&mut rt.stderr(), fault_line(PlayFault::Memory))),
+    match written_plan(rt.alloc(), text.as_slice(), files) {
+        Ok(plan) => Ok((text, plan)),
+        Err(fault) => Err(unwritten(rt, file, fault)),
     }
+}
+
+/// Reports why a plan is not run. If a file of the disk could not be read, a sentence has said so.
+fn unwritten(rt: &HostRuntime, file: &str, fault: PlanFileFault) -> u8 {
+    if fault == PlanFileFault::TooLong {
+        say(
+            rt,
+            format!(in rt.alloc(); "{file}: it has more than 8,388,608 bytes"),
+        );
+    }
+    report_fault(&mut rt.stderr(), plan_file_fault_line(fault))
 }
 
 /// Reports that a file could not be read, by its name, and why.

@@ -1,14 +1,19 @@
 // No clause states this: the line that reports a fault, and the outcome of jobs.
 use crate::status::{jobs_status, play_status};
 use ft_core::{Limits, Rule};
+use ft_job_text::PlanRun;
 use ft_jobs::Pace;
+use ft_plan_files::WrittenPlan;
 use ft_record::Recorded;
 use ft_script::core_with_setup;
 use ft_transfer::NoFiles;
 use std::alloc::Global;
 use std::io;
 use std::io::{ErrorKind, Read, Write};
+use std::sync::Wait;
 use std::test::Fail;
+use std::thread::Threads;
+use std::time::Clock;
 
 /// A reader that gives a text, and then fails.
 #[derive(Drop)]
@@ -122,37 +127,38 @@ const ONE_OUTCOME: &str =
     "job a 1 committed\nhistory 2\ncall 2 1 mkdir /a = ok\ncall 3 1 list / = ok 1 a/\ntree 3\n\
         dir 1\ndir 2\nedge 1 a 2\n";
 
+/// Runs a plan of these bytes, which carries no files, on a new core.
+fn status_of_plan<R: Threads + Wait + Clock + Sync>(
+    rt: &R,
+    alloc: Global,
+    bytes: &[u8],
+    output: &mut Narrow,
+    errors: &mut Narrow,
+) -> Result<u8, Fail> {
+    let plan = WrittenPlan {
+        bytes: bytes.to_vec(alloc)?,
+        gets: Vec::new(alloc),
+    };
+    let run = PlanRun {
+        plan: &plan,
+        pace: Pace::of_turns(1),
+        screen: None::<Narrow>,
+    };
+    let core = Recorded::new(alloc)?;
+    Ok(jobs_status(rt, alloc, core, run, &NoFiles, output, errors))
+}
+
 /// Checks the text of the outcome of jobs.
 #[test]
 fn jobs_program_text(rt: HostRuntime) -> Result<(), Fail> {
     let alloc = rt.alloc();
     let mut output = Narrow::new(alloc, 200);
     let mut errors = Narrow::new(alloc, 100);
-    let core = Recorded::new(alloc)?;
-    let status = jobs_status(
-        &rt,
-        alloc,
-        core,
-        ONE_JOB,
-        Pace::of_turns(1),
-        None::<Narrow>,
-        &mut output,
-        &mut errors,
-    );
+    let status = status_of_plan(&rt, alloc, ONE_JOB, &mut output, &mut errors)?;
     assert!(rt;
         status == 0 && output.held.as_slice() == ONE_OUTCOME.as_bytes() && errors.held.is_empty()
     );
-    let core = Recorded::new(alloc)?;
-    let status = jobs_status(
-        &rt,
-        alloc,
-        core,
-        b"".as_slice(),
-        Pace::of_turns(1),
-        None::<Narrow>,
-        &mut output,
-        &mut errors,
-    );
+    let status = status_of_plan(&rt, alloc, b"", &mut output, &mut errors)?;
     assert!(rt; status == 1 && errors.held.as_slice() == b"fault: BadPlan\n".as_slice());
     Ok(())
 }
@@ -163,17 +169,7 @@ fn output_that_fails(rt: HostRuntime) -> Result<(), Fail> {
     let alloc = rt.alloc();
     let mut output = Narrow::new(alloc, 10);
     let mut errors = Narrow::new(alloc, 100);
-    let core = Recorded::new(alloc)?;
-    let status = jobs_status(
-        &rt,
-        alloc,
-        core,
-        ONE_JOB,
-        Pace::of_turns(1),
-        None::<Narrow>,
-        &mut output,
-        &mut errors,
-    );
+    let status = status_of_plan(&rt, alloc, ONE_JOB, &mut output, &mut errors)?;
     assert!(rt;
         status == 1
             && output.held.as_slice() == b"job a 1 co".as_slice()

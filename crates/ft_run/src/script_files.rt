@@ -1,4 +1,4 @@
-// The files of the disk that a script names.
+// The files of the disk that a script or a plan names.
 //
 // No clause states what a disk holds, so these are the functions of a trait whose reports are not
 // stated either.
@@ -38,6 +38,8 @@ enum Cause {
     Memory(#[from(alloc)] AllocError),
     #[error("it is {0}")]
     Special(&'static str),
+    #[error("it has more bytes than --largest-file allows")]
+    TooLarge,
     #[error("its name is not UTF-8 text")]
     NotText,
     #[error(".save.part0 to .save.part999 exist already in its directory")]
@@ -50,17 +52,43 @@ impl<'a> ScriptFiles<'a> {
         ScriptFiles { rt, most }
     }
 
-    /// Returns the bytes of a regular file, to which a symbolic link may lead. If there are more
-    /// than a file of the tree may have, it returns one more than that, since none has room for it.
-    fn read(&self, name: &[u8]) -> Result<Vec<u8>, Cause> {
+    /// Opens a regular file, to which a symbolic link may lead. Returns how long it is, too.
+    fn open(&self, name: &[u8]) -> Result<(File, u64), Cause> {
         let place = text_of(name)?;
         // (an open would wait for a FIFO)
         refuse_special(&fs::metadata(self.rt, place)?)?;
         let file = File::open(self.rt, place)?;
-        refuse_special(&file.metadata()?)?;
+        let metadata = file.metadata()?;
+        refuse_special(&metadata)?;
+        Ok((file, metadata.len()))
+    }
+
+    /// Returns the bytes of a file. If there are more than a file of the tree may have, it returns
+    /// one more than that, since none has room for it.
+    fn bytes_of(&self, file: File) -> Result<Vec<u8>, Cause> {
         let mut bytes = Vec::new(self.rt.alloc());
         file.take(self.most.saturating_add(1))
             .read_to_end(&mut bytes)?;
+        Ok(bytes)
+    }
+
+    /// Returns the bytes of a regular file, as `bytes_of` does.
+    fn read(&self, name: &[u8]) -> Result<Vec<u8>, Cause> {
+        let (file, _) = self.open(name)?;
+        self.bytes_of(file)
+    }
+
+    /// Returns the bytes of a regular file if a file of the tree may have as many.
+    fn read_fitting(&self, name: &[u8]) -> Result<Vec<u8>, Cause> {
+        let (file, len) = self.open(name)?;
+        if len > self.most {
+            return Err(Cause::TooLarge);
+        }
+        let bytes = self.bytes_of(file)?;
+        // (it may have grown meanwhile)
+        if bytes.len() as u64 > self.most {
+            return Err(Cause::TooLarge);
+        }
         Ok(bytes)
     }
 
@@ -131,6 +159,30 @@ impl DiskFiles for ScriptFiles<'_> {
     fn write_file(&self, name: &[u8], bytes: &[u8]) -> Result<(), FileFailed> {
         self.write(name, bytes)
             .map_err(|cause| self.failed("write", name, &cause))
+    }
+}
+
+/// The files of the disk that a plan names: those of a script, except that a file can't be read if
+/// the tree has no room for it. (The `write` of a `put` would write a part of it.)
+#[derive(Clone, Copy)]
+pub struct PlanFiles<'a>(ScriptFiles<'a>);
+
+impl<'a> PlanFiles<'a> {
+    /// Returns the files for a tree whose files have at most this many bytes.
+    pub fn new(rt: &'a HostRuntime, most: u64) -> PlanFiles<'a> {
+        PlanFiles(ScriptFiles::new(rt, most))
+    }
+}
+
+impl DiskFiles for PlanFiles<'_> {
+    fn read_file(&self, name: &[u8]) -> Result<Vec<u8>, FileFailed> {
+        self.0
+            .read_fitting(name)
+            .map_err(|cause| self.0.failed("read", name, &cause))
+    }
+
+    fn write_file(&self, name: &[u8], bytes: &[u8]) -> Result<(), FileFailed> {
+        self.0.write_file(name, bytes)
     }
 }
 

@@ -2,20 +2,19 @@
 ghost use Rattle.std.specs.Prelude.{◌≡◌, ◌⊎◌, true, false};
 ghost use Rattle.std.specs.Io.KnownBytes.{Keeps};
 ghost use Rattle.ft_dot.specs.Drawn.{Draws};
-ghost use Rattle.ft_job_text.specs.Runs.{RunsPlan};
-ghost use Rattle.ft_run.specs.FaultLines.{TellsLine, after_line, save_line, stopped_line};
+ghost use Rattle.ft_run.specs.FaultLines.{TellsLine, after_line, save_line, stopped_line, unwritten_line};
 ghost use Rattle.ft_script.specs.Runs.{AnswersFreely, WritesFront};
 ghost use Rattle.ft_core.specs.Living.{NoneIsLive};
 ghost use Rattle.ft_load.specs.Loads.{Loads};
 ghost use Rattle.ft_save.specs.Saves.{IsLeft, Saves};
-ghost use Rattle.ft_run.specs.Statuses.{PlaysToEnd, FailsToPlay, FailsToDraw, FailsToRun, FailsToLoad, FailsToSave};
+ghost use Rattle.ft_run.specs.Statuses.{PlaysToEnd, FailsToPlay, FailsToDraw, FailsToRun, FailsToLoad, FailsToSave, RunsJobs, status_of};
 
 use crate::faults::{fault_line, run_fault_line, trouble_name};
+use crate::gets::give_files;
 use ft_copy::{CopyLimits, CopyStop, Source, Target};
 use ft_core::Core;
 use ft_dot::draw;
-use ft_job_text::{RunFault, run_plan};
-use ft_jobs::Pace;
+use ft_job_text::{PlanRun, run_plan};
 use ft_load::{Form, load};
 use ft_record::Recorded;
 use ft_save::{SaveFault, save};
@@ -80,13 +79,21 @@ pub fn dot_status<R: Read, W: Write, E: Write>(
 /// with: 0; 3 if the plan is strict and a job did not end as it means; or 1 after a fault, which a
 /// line on `errors` reports. If that line can't be written, the status is the same. How far the
 /// jobs have come is shown on a screen while they run, if there is one.
-pub fn jobs_status<R: Threads + Wait + Clock + Sync, S: Write + Send + Drop, W: Write, E: Write>(
+///
+/// After the run, files of the disk are given what the `get`s of the plan got. A line on `errors`
+/// reports each that could not be written, and the status is 1.
+pub fn jobs_status<
+    R: Threads + Wait + Clock + Sync,
+    S: Write + Send + Drop,
+    F: DiskFiles,
+    W: Write,
+    E: Write,
+>(
     rt: &R,
     alloc: Global,
     core: Recorded,
-    plan: &[u8],
-    pace: Pace,
-    screen: Option<S>,
+    run: PlanRun<'_, S>,
+    files: &F,
     writer: &mut W,
     errors: &mut E,
 ) -> u8
@@ -94,17 +101,32 @@ pub fn jobs_status<R: Threads + Wait + Clock + Sync, S: Write + Send + Drop, W: 
     ensures status { (result ≡ 0) ⊎ (result ≡ 1) ⊎ (result ≡ 3) }
     ensures quiet { (result ≡ 0) ⊎ (result ≡ 3)
         → Keeps (E.contents errors.old) (E.contents errors.new) }
-    ensures ok { result ≡ 0 → RunsPlan true core.state plan.now (W.contents writer.old)
-        (W.contents writer.new) }
-    ensures unmet { result ≡ 3
-        → RunsPlan false core.state plan.now (W.contents writer.old) (W.contents writer.new) }
-    ensures fault { result ≡ 1 → FailsToRun core.state plan.now W.contents E.contents
-        writer.old writer.new errors.old errors.new }
+    ensures ok { result ≡ 0 → RunsJobs (F.tells files.now) true true core.state
+        run.entry.plan.now W.contents E.contents writer.old writer.new errors.old errors.new }
+    ensures unmet { result ≡ 3 → RunsJobs (F.tells files.now) false true core.state
+        run.entry.plan.now W.contents E.contents writer.old writer.new errors.old errors.new }
+    ensures fault { result ≡ 1 → FailsToRun (F.tells files.now) core.state
+        run.entry.plan.now W.contents E.contents writer.old writer.new errors.old errors.new }
 {
-    match run_plan(rt, alloc, core, plan, pace, screen, writer) {
-        Ok(is_met) if is_met => 0,
-        Ok(_) => 3,
+    let gets = run.plan.gets.as_slice();
+    match run_plan(rt, alloc, core, run, writer) {
+        Ok(end) => {
+            let given = give_files(alloc, gets, end.got.as_slice(), files, errors);
+            status_of(end.met, given)
+        }
         Err(fault) => report_fault(errors, run_fault_line(fault)),
+    }
+}
+
+/// Returns the status of jobs that have run: 1 if a file could not be written, and otherwise 3 if
+/// they did not end as the plan means.
+fn status_of(met: bool, given: bool) -> u8
+    ensures { result ≡ status_of met given }
+{
+    match (given, met) {
+        (false, _) => 1,
+        (true, true) => 0,
+        (true, false) => 3,
     }
 }
 
@@ -211,6 +233,20 @@ fn report_stop<E: Write>(alloc: Global, errors: &mut E, stopped: &CopyStop) -> u
     let name = trouble_name(stopped.trouble);
     let path = CodedArgument(stopped.path.as_slice());
     match format!(in alloc; "fault: {name}{path}\n") {
+        Ok(line) => report_fault(errors, line.as_str()),
+        Err(_) => report_fault(errors, fault_line(PlayFault::Memory)),
+    }
+}
+
+/// Reports that a file of the disk could not be written. If there is no memory for the line, that
+/// is reported.
+pub fn report_unwritten<E: Write>(alloc: Global, errors: &mut E, file: &[u8]) -> u8
+    ensures status { result ≡ 1 }
+    ensures line { TellsLine (E.contents errors.old) (E.contents errors.new)
+        (unwritten_line file.now) }
+{
+    let file = CodedArgument(file);
+    match format!(in alloc; "fault: Write{file}\n") {
         Ok(line) => report_fault(errors, line.as_str()),
         Err(_) => report_fault(errors, fault_line(PlayFault::Memory)),
     }

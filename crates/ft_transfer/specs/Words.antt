@@ -10,10 +10,10 @@ use Rattle.ft_transfer.specs.declared.transfer.Transfer.{Transfer}
 abbrev pub direction_words : List (List ℕ × Direction)
 direction_words = (codes "put", Put) ∷ (codes "get", Get) ∷ []
 
--- the name of a file of the disk: `@` and a path
+-- the name of a file of the disk: `@` and a path that is not empty
 abbrev pub parse_file : List ℕ → Option (List ℕ)
-parse_file [] = None
-parse_file (b ∷ bs) = if b == 64 then parse_path bs else None
+parse_file (at ∷ b ∷ bs) = if at == 64 then parse_path (b ∷ bs) else None
+parse_file short = None
 
 -- a transaction, a direction, the path of a file of the tree and the name of a file of the disk
 abbrev pub transfer_of : List (List ℕ) → Option Transfer

@@ -54,12 +54,12 @@ pub fn parse_path_file(alloc: Global, words: Words<'_>) -> Result<(FilePath, Fil
     Ok((path, file))
 }
 
-/// Returns the name of a file of the disk: the path that a word codes after `@`.
+/// Returns the name of a file of the disk: the path that a word codes after `@`. It is not empty.
 fn parse_file(alloc: Global, word: &[u8]) -> Result<FilePath, ParseError>
     ensures { Reads result (parse_file word.now) }
 {
-    let name = word
-        .strip_prefix(b"@".as_slice())
-        .ok_or(ParseError::Misspelt)?;
-    parse_path(alloc, name)
+    match word {
+        [b'@', _, ..] => parse_path(alloc, &word[1..]),
+        _ => Err(ParseError::Misspelt),
+    }
 }

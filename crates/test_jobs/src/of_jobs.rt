@@ -31,6 +31,9 @@ const WORKED: &[u8] =
 /// Two jobs, each of which asks for what the other one has made.
 const CROSSED: &[u8] = b"job a\nmkdir /x\nstat /y\ncommit\njob b\nmkdir /y\nstat /x\ncommit\n";
 
+/// Two jobs of a strict plan, of which the second asks for what the first has made.
+const KEPT: &[u8] = b"strict\njob a\nmkdir /x\nmkdir /y\ncommit\njob b\nstat /x\ncommit\n";
+
 /// A gate at which two jobs meet before their second step: each waits until the other one has come
 /// there too. The first job meets the last one, and so on inwards.
 #[derive(Drop)]
@@ -71,6 +74,45 @@ impl Gate for Meeting {
             }
             thread::sleep(rt, Duration::from_millis(1));
         }
+    }
+}
+
+/// A gate at which the second job waits until the first one has come to its second step. The first
+/// one stays there until the second one has ended.
+#[derive(Drop)]
+struct Keeping {
+    /// Whether the first job has come there.
+    came: AtomicU64,
+    /// Whether the second job has ended.
+    ended: AtomicU64,
+}
+
+impl Gate for Keeping {
+    fn pass<R: Wait + Clock>(&self, rt: &R, job: u64, step: u64) {
+        match (job, step) {
+            (0, 2) => {
+                self.came.store(1, Ordering::SeqCst);
+                wait_for(rt, &self.ended);
+            }
+            (1, 1) => wait_for(rt, &self.came),
+            _ => {}
+        }
+    }
+
+    fn ended<R: Wait + Clock>(&self, _rt: &R, job: u64) {
+        if job == 1 {
+            self.ended.store(1, Ordering::SeqCst);
+        }
+    }
+}
+
+/// Waits until a number is 1, for about ten seconds at most.
+fn wait_for<R: Wait + Clock>(rt: &R, number: &AtomicU64) {
+    for _ in 0..MEETING_TURNS {
+        if number.load(Ordering::SeqCst) == 1 {
+            return;
+        }
+        thread::sleep(rt, Duration::from_millis(1));
     }
 }
 
@@ -188,6 +230,34 @@ fn is_broken(outcome: &JobsOutcome) -> bool {
 /// transaction was not the first one.
 fn is_tried(report: &Report) -> bool {
     report.end == End::Deadlock && report.txn != Some(TxnId(1)) && report.calls.len() == 1
+}
+
+/// The outcome of two jobs of a strict plan, of which the first keeps its lock until the second one
+/// has ended.
+fn waits_in_vain<R: Threads + Wait + Clock + Sync>(
+    rt: &R,
+    alloc: Global,
+) -> Result<JobsOutcome, Fail> {
+    let plan = Plan::read(alloc, KEPT)?;
+    let gate = Keeping {
+        came: AtomicU64::new(0),
+        ended: AtomicU64::new(0),
+    };
+    let pace = Pace::of_turns(FEW_TURNS);
+    Ok(run_jobs(rt, alloc, &plan, new_shared(alloc)?, &gate, pace)?)
+}
+
+/// Returns whether the second job has failed at its first step, without a call and without a second
+/// try, and the first one has committed.
+fn has_waited_too_long(outcome: &JobsOutcome) -> bool {
+    let [kept, waited] = outcome.reports.as_slice() else {
+        return false;
+    };
+    kept.end == End::Committed
+        && kept.calls.len() == 2
+        && waited.end == End::Failed(1)
+        && waited.calls.is_empty()
+        && outcome.victims.is_empty()
 }
 
 /// An untruth of a manager.
@@ -342,6 +412,12 @@ fn turns_are_used_up(rt: HostRuntime) -> Result<(), Fail> {
 #[test]
 fn deadlocks_are_broken(rt: HostRuntime) -> Result<(), Fail> {
     assert!(rt; is_broken(&crosses_again(&rt, rt.alloc())?));
+    Ok(())
+}
+
+#[test]
+fn strict_job_waits_too_long(rt: HostRuntime) -> Result<(), Fail> {
+    assert!(rt; has_waited_too_long(&waits_in_vain(&rt, rt.alloc())?));
     Ok(())
 }
 

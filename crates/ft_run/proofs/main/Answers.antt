@@ -1,4 +1,4 @@
-use Rattle.std.proofs.Common.{◌≡◌, sym, subst}
+use Rattle.std.proofs.Common.{sym, subst}
 use Rattle.ft_command.specs.declared.choice.Choice.{Choice}
 use Rattle.ft_run.proofs.Paced.{HasTurns, turns_asked}
 use Rattle.ft_run.proofs.main.Goals as goal

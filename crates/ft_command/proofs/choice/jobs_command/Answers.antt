@@ -8,7 +8,7 @@ use Rattle.ft_command.proofs.choice.jobs_command.Goals as goal
 
 pub returns-clause-app : goal.returns-clause-app
 returns-clause-app c =
-    let one_is = c.in_ok-arg.ensures.shape c.file_arg.ensures.local ∙ ap₂ with_rule (ap app_of_fields c.about.ensures ∙ c.new.ensures.app) c.file_arg.ensures.rule in
+    let one_is = c.in_ok-arg.ensures.shape c.file_arg.ensures.local ∙ ap₂ with_rule (ap app_of_fields c.after_help.ensures ∙ ap app_of_fields c.about.ensures ∙ c.new.ensures.app) c.file_arg.ensures.rule in
     let two_is = c.in_ok-arg-2.ensures.shape c.turns_arg.ensures.local ∙ ap₂ with_rule one_is c.turns_arg.ensures.rule in
     let three_is = c.in_ok-arg-3.ensures.shape c.quiet_arg.ensures.local ∙ ap₂ with_rule two_is c.quiet_arg.ensures.rule in
     let four_is = c.in_ok-arg-4.ensures.shape c.moss_arg.ensures.local ∙ ap₂ with_rule three_is c.moss_arg.ensures.rule in
@@ -19,7 +19,7 @@ returns-clause-app c =
 
 pub returns-clause-local : goal.returns-clause-local
 returns-clause-local c =
-    let bare : (out-Command c.about.result).has_globals ≡ false = ap (λ f. f.has_globals) c.about.ensures ∙ c.new.ensures.local in
+    let bare : (out-Command c.after_help.result).has_globals ≡ false = ap (λ f. f.has_globals) c.after_help.ensures ∙ ap (λ f. f.has_globals) c.about.ensures ∙ c.new.ensures.local in
     let one = c.in_ok-arg.ensures.globals ∙ ap₂ (λ a b. a || b) bare c.file_arg.ensures.local in
     let two = c.in_ok-arg-2.ensures.globals ∙ ap₂ (λ a b. a || b) one c.turns_arg.ensures.local in
     let three = c.in_ok-arg-3.ensures.globals ∙ ap₂ (λ a b. a || b) two c.quiet_arg.ensures.local in

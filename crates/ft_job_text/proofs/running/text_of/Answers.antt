@@ -13,4 +13,5 @@ returns-clause-ok g c =
       victims = c.in_ok-outcome.ensures.victims;
       told = c.in_ok-text.ensures ∙ ap (λ (jobs : List Job). text_of_outcome jobs outcome) c.jobs-jobs.ensures.jobs;
       as_meant = (search rules);
+      got = (search rules);
     }

@@ -1,8 +1,6 @@
-use Rattle.std.proofs.Common.{◌≡◌, true, cond, [], ◌∷◌, ◌++◌, length, sym, ap, ◌∙◌, arith, rules}
-use Rattle.std.specs.Prelude.{nat_le}
+use Rattle.std.proofs.Common.{◌≡◌, [], ◌∷◌, ◌++◌, sym, ap, ◌∙◌, arith, rules}
 use Rattle.ft_words.specs.Spelling.{IsFreeOf}
-use Rattle.ft_plan.specs.declared.plan.TheConstants.{LONGEST_PLAN}
-use Rattle.ft_plan_names.specs.Numbers.{Numbering, after_line, all_lines, no_steps, numbered_line, numbering_of}
+use Rattle.ft_plan_names.specs.Numbers.{Numbering, after_line, all_lines, numbered_line, numbering_of}
 use Rattle.ft_plan_names.proofs.Lining.{cut_shorter, lines_last, lines_next, text_of}
 use Rattle.ft_plan_names.proofs.numbering.numbered_plan.Goals as goal
 
@@ -13,7 +11,7 @@ loop-line-preserved c =
     let rest = c.loop-line.rest.now in
     let line = c.in-Some.line.now in
     let more = c.in-Some.more.now in
-    let put = c.extend_from_slice-in-Some.new.self.items in
+    let put = c.extend_from_slice.new.self.items in
     let next = numbering_of c.put_line.new.steps in
     let free : IsFreeOf 10 line = search rules in
     let is : rest ≡ line ++ 10 ∷ more = search rules in
@@ -31,11 +29,6 @@ returns c =
     let made = c.loop-line.made.items in
     let steps = numbering_of c.loop-line.steps in
     let rest = c.loop-line.rest.now in
-    let text = c.args.text.now in
     let free : IsFreeOf 10 rest = search rules in
-    let fits : nat_le (length text) LONGEST_PLAN ≡ true = search rules in
     let put : c.put_line-2.new.made.items ≡ made ++ numbered_line steps rest = search rules in
-    put
-    ∙ ap (λ t. made ++ t) (sym (lines_last steps rest free))
-    ∙ sym c.loop-line.invariant.0
-    ∙ ap (λ b. cond b (text_of no_steps (all_lines text)) text) (sym fits)
+    put ∙ ap (λ t. made ++ t) (sym (lines_last steps rest free)) ∙ sym c.loop-line.invariant.0

@@ -1,0 +1,17 @@
+pub mod Texts
+pub mod WrittenLines
+pub mod Counts
+pub mod Staying
+pub mod Cutting
+pub mod Printed
+pub mod Ends
+pub mod StepWords
+pub mod StepCalls
+pub mod Sources
+pub mod CarriedPaths
+pub mod Standing
+pub mod StillLines
+pub mod Saying
+pub mod Reading
+pub mod StrictPlans
+pub mod PlaceReads
