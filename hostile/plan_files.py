@@ -9,7 +9,6 @@ import os
 import random
 import re
 import shutil
-import socket
 import stat
 import subprocess
 import tempfile
@@ -409,46 +408,13 @@ def contended_jobs(bench):
 # ---- files that can't be read or written
 
 
-def make_special(folder):
-    """A directory, a FIFO, a socket, and symbolic links: to a FIFO, to nothing, in a ring."""
-    os.mkdir(folder.at("d"))
-    os.mkfifo(folder.at("fifo"))
-    for name, leads_to in {"to fifo": "fifo", "to nothing": "nowhere", "ring": "ring"}.items():
-        os.symlink(leads_to, folder.at(name))
-    os.symlink("f", folder.at("to f"))
-    # (its path may be too long for a socket)
-    here = os.open(folder.path, os.O_RDONLY)
-    with socket.socket(socket.AF_UNIX) as server:
-        server.bind(f"/proc/self/fd/{here}/socket")
-    os.close(here)
-
-
-READS = {
-    "none": b"entity not found", "d": b"it is a directory", "fifo": b"it is a FIFO",
-    "to fifo": b"it is a FIFO", "to nothing": b"entity not found",
-    "ring": b"filesystem loop or indirection limit (e.g. symlink loop)",
-    "socket": b"it is a socket", "/dev/null": b"it is a device", "/dev/zero": b"it is a device",
-    "d/": b"it is a directory", "f/": b"not a directory", "f/g": b"not a directory",
-    ".": b"it is a directory", b"\xff": b"its name is not UTF-8 text",
-    "n" * 256: b"invalid filename",
-}
-
-WRITES = {
-    "d": b"it is a directory", "fifo": b"it is a FIFO", "to f": b"it is a symbolic link",
-    "to nothing": b"it is a symbolic link", "socket": b"it is a socket",
-    "/dev/null": b"it is a device", "none/f": b"entity not found", "none/": b"entity not found",
-    "f/g": b"not a directory", ".": b"it is a directory", b"\xff": b"its name is not UTF-8 text",
-    "n" * 256: b"invalid filename",
-}
-
-
 def special_reads(bench):
     """Only a regular file is put. If one can't be read, nothing runs and nothing is written."""
     with folder_of(bench, f=b"f") as folder:
-        make_special(folder)
+        transfers.make_special(folder.path)
         put(folder.at(b"\xff"))
         before = folder.names()
-        for name, why in READS.items():
+        for name, why in transfers.READS.items():
             lines = b"mkdir /d\nget /d @new\nput /f @f\nput /g @%s\nput /h @none\n" % coded(name)
             told = b"ft: cannot read '%s': %s\nfault: Read\n" % (coded(name), why)
             for front in (b"", b"strict\n"):
@@ -470,8 +436,8 @@ def special_writes(bench):
     """Only a regular file is replaced. The other files of the plan are written all the same."""
     plan = b"job a\nput /f @f\nget /f @first\nget /f @%s\nget /f @last\ncommit\n"
     with folder_of(bench, f=b"f") as folder:
-        make_special(folder)
-        for name, why in WRITES.items():
+        transfers.make_special(folder.path)
+        for name, why in transfers.WRITES.items():
             before, told_before = folder.names(), told_at(folder, name)
             ran = folder.run(plan % coded(name))
             fault = b"fault: Write" + told_data(os.fsencode(name))

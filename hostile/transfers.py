@@ -213,42 +213,54 @@ def any_names(disk):
         disk.refuses("a long name", b"put /f @" + word, b"cannot read '%s': invalid filename" % word)
 
 
+# Why a put can't read what has this name.
+READS = {
+    "none": b"entity not found", "d": b"it is a directory", "fifo": b"it is a FIFO",
+    "to fifo": b"it is a FIFO", "to nothing": b"entity not found",
+    "ring": b"filesystem loop or indirection limit (e.g. symlink loop)",
+    "socket": b"it is a socket", "/dev/null": b"it is a device", "/dev/zero": b"it is a device",
+    "d/": b"it is a directory", "f/": b"not a directory", "f/g": b"not a directory",
+    ".": b"it is a directory", b"\xff": b"its name is not UTF-8 text",
+    "n" * 256: b"invalid filename",
+}
+
+# Why a get can't write it.
+WRITES = {
+    "d": b"it is a directory", "fifo": b"it is a FIFO", "to f": b"it is a symbolic link",
+    "to nothing": b"it is a symbolic link", "socket": b"it is a socket",
+    "/dev/null": b"it is a device", "none/f": b"entity not found", "none/": b"entity not found",
+    "f/g": b"not a directory", ".": b"it is a directory", b"\xff": b"its name is not UTF-8 text",
+    "n" * 256: b"invalid filename",
+}
+
+
+def make_special(folder):
+    """Puts into a folder that has a file `f` what is no regular file: a directory, a FIFO, a socket,
+    and symbolic links (to a FIFO, to nothing, in a ring, to `f`)."""
+    os.mkdir(f"{folder}/d")
+    os.mkfifo(f"{folder}/fifo")
+    leads_to = {"to fifo": "fifo", "to nothing": "nowhere", "ring": "ring", "to f": "f"}
+    for name, target in leads_to.items():
+        os.symlink(target, f"{folder}/{name}")
+    # (its path may be too long for a socket)
+    here = os.open(folder, os.O_RDONLY)
+    with socket.socket(socket.AF_UNIX) as server:
+        server.bind(f"/proc/self/fd/{here}/socket")
+    os.close(here)
+
+
 def special_files(disk):
     """Only a regular file is read or replaced, and no FIFO is waited for."""
-    os.mkdir(disk.at("d"))
-    os.mkfifo(disk.at("fifo"))
-    os.symlink("fifo", disk.at("to fifo"))
-    os.symlink("nowhere", disk.at("to nothing"))
-    os.symlink("ring", disk.at("ring"))
     put(disk.at("f"), b"f")
-    os.symlink("f", disk.at("to f"))
-    with socket.socket(socket.AF_UNIX) as server:
-        # (its path may be too long for a socket)
-        here = os.getcwd()
-        os.chdir(disk.folder)
-        server.bind("socket")
-        os.chdir(here)
-    reads = {
-        "none": b"entity not found", "d": b"it is a directory", "fifo": b"it is a FIFO",
-        "to fifo": b"it is a FIFO", "to nothing": b"entity not found",
-        "ring": b"filesystem loop or indirection limit (e.g. symlink loop)",
-        "socket": b"it is a socket", "/dev/null": b"it is a device", "d/": b"it is a directory",
-        "f/": b"not a directory", "f/g": b"not a directory", ".": b"it is a directory",
-    }
-    for name, why in reads.items():
+    make_special(disk.folder)
+    for name, why in READS.items():
         word = coded(name)
         told = b"cannot read '%s': %s" % (word, why)
         disk.refuses(f"a read of {name!r}", b"put /f @" + word, told)
     ran = disk.play(b"begin\n1 put /f @to%20f\n1 get /f @new\n")
     is_read = ran.out == b"txn 1\n5 ok\n8 ok\n" and contents(disk.at("new")) == b"f"
     disk.check("a symbolic link to a file is read", is_read, ran.err)
-    writes = {
-        "d": b"it is a directory", "fifo": b"it is a FIFO", "to f": b"it is a symbolic link",
-        "to nothing": b"it is a symbolic link", "socket": b"it is a socket",
-        "/dev/null": b"it is a device", "none/f": b"entity not found", "none/": b"entity not found",
-        "f/g": b"not a directory", ".": b"it is a directory", "n" * 256: b"invalid filename",
-    }
-    for name, why in writes.items():
+    for name, why in WRITES.items():
         word = coded(name)
         path = disk.at(name) if os.path.lexists(disk.at(name)) else disk.at("f")
         before = told_of(path)
