@@ -1,5 +1,7 @@
 """Runs of the program: what goes in, and what comes out."""
 import collections
+import resource
+import signal
 import subprocess
 import tempfile
 
@@ -18,6 +20,19 @@ def run(words, script=b"", environment=None):
         streams = {"stdin": given, "stdout": text, "stderr": errors}
         ended = subprocess.run(words, env=environment, timeout=MOST_SECONDS, **streams)
         return Run(ended.returncode, written(text), written(errors))
+
+
+def run_with_short_errors(words, script, most):
+    """Runs a program whose standard error is a file that takes at most so many bytes."""
+
+    def limits():
+        signal.signal(signal.SIGXFSZ, signal.SIG_IGN)
+        resource.setrlimit(resource.RLIMIT_FSIZE, (most, most))
+
+    with tempfile.TemporaryFile() as errors:
+        streams = {"input": script, "stdout": subprocess.PIPE, "stderr": errors}
+        ended = subprocess.run(words, preexec_fn=limits, timeout=MOST_SECONDS, **streams)
+        return Run(ended.returncode, ended.stdout, written(errors))
 
 
 def written(file):

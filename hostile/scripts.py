@@ -5,6 +5,9 @@ import re
 
 FOLDER = os.path.join(os.path.dirname(os.path.dirname(os.path.abspath(__file__))), "cases")
 
+# The most bytes of a line: docs/SCRIPT.md, "Lines and words".
+LONGEST_LINE = 8_388_608
+
 REPORTS = [b"tree", b"locks", b"attributes", b"waits"]
 
 # The first line of each reply that there is: docs/SCRIPT.md, "Requests" and "Replies".
@@ -53,6 +56,12 @@ def all_cases():
 
 def case_named(name):
     return Case(os.path.join(FOLDER, name + ".ft"))
+
+
+def plan_named(name):
+    """The file of a plan among the case files, and the text that is right."""
+    plan = os.path.join(FOLDER, name + ".plan")
+    return plan, contents(plan[: -len(".plan")] + ".out")
 
 
 def script_of(requests):

@@ -7,7 +7,6 @@ import scripts
 
 MOST_TRANSACTIONS = 100_000
 MOST_CALLS = 1_000_000
-LONGEST_LINE = 8_388_608
 GREATEST_DEPTH = 4_096
 
 # How many times as many instructions a script of four times the size may take. One that grows with
@@ -69,7 +68,7 @@ def longest_comment(bench):
 
 
 def fault_of_comment(bench, ending, end_of_script):
-    comment = b"#" * (LONGEST_LINE - len(ending)) + ending
+    comment = b"#" * (scripts.LONGEST_LINE - len(ending)) + ending
     behind = b"txn 2\n" if end_of_script.endswith(b"begin\n") else b""
     fits = playing.run([bench.program, "play"], b"begin\n" + comment + end_of_script)
     longer = playing.run([bench.program, "play"], b"begin\n#" + comment + end_of_script)
@@ -81,7 +80,7 @@ def longest_request(bench):
     """The same of a line with a request: the bytes that have room in a file are written."""
     opened = b"begin\n1 open wc /f\n"
     request = b"1 write 2 "
-    request += b"x" * (LONGEST_LINE - len(request))
+    request += b"x" * (scripts.LONGEST_LINE - len(request))
     answered = b"txn 1\n2 ok 2\n"
     fits = playing.run([bench.program, "play"], opened + request)
     longer = playing.run([bench.program, "play"], opened + request + b"x\n1 stat /f\n")

@@ -16,6 +16,7 @@ def tests():
             name = f"{trial.__name__.replace('_', ' ')}: {case.name}"
             named.append((name, lambda bench, trial=trial, case=case: trial(bench, case)))
     named.append(("help can't be written", help_is_not_written))
+    named.append(("a fault's line can't be written", fault_is_not_written))
     return named
 
 
@@ -32,6 +33,18 @@ def help_is_not_written(bench):
         if fault is not None:
             return f"{words}: {fault}"
     return None
+
+
+def fault_is_not_written(bench):
+    """The line of a fault, of which only the first bytes can be written: nothing else changes."""
+    words, script = [bench.program, "play"], b"begin\n#" + b"x" * scripts.LONGEST_LINE
+    whole = playing.run(words, script)
+    fault = playing.fault_of_end(whole, b"txn 1\n", "TooLong")
+    for most in range(len(whole.errors)):
+        cut = playing.run_with_short_errors(words, script, most)
+        if cut != whole._replace(errors=whole.errors[:most]):
+            fault = fault or f"of {most} bytes: {cut}"
+    return fault
 
 
 def fault_of_cuts(bench, case):

@@ -1,15 +1,5 @@
+pub mod Shorter
 pub mod Loans
 pub mod Views
 pub mod Orders
-pub mod Places
-pub mod PagedWalks
-pub mod Pages
-pub mod ListPages
-pub mod Groups
-pub mod Tables
-pub mod Maps
 pub mod Clones
-pub mod ChainShape
-pub mod ChainMoves
-pub mod ChainCalls
-pub mod ChainWalks

@@ -6,7 +6,7 @@ use Rattle.std.specs.Ordering.{nat_cmp}
 use Rattle.std.specs.Cmp.{nat_cmp_total}
 use Rattle.std.specs.declared.cmp.Ordering.TheVariants.{Equal}
 use Rattle.std.specs.FinMap as finite
-use Rattle.ft_base.specs.OwnedLists.{Lists, list_in}
+use Rattle.ft_owned_lists.specs.OwnedLists.{Lists, list_in}
 use Rattle.ft_laws.specs.Lists.{In}
 use Rattle.ft_laws.proofs.Tests.{by_test, by_option}
 use Rattle.ft_cells.specs.declared.cell.Cell.{Cell}

@@ -1,7 +1,7 @@
 -- What a begin does to what a core keeps.
 use Rattle.std.proofs.Common.{◌≡◌, ◌≢◌, ◌<◌, ◌+◌, ℕ, Bool, true, false, cond, [], ◌∷◌, Option, Some, None, arith, refl, sym, ap, subst, ◌∙◌, ◌==◌}
 use Rattle.std.specs.FinMap as finite
-use Rattle.ft_base.specs.OwnedLists.{Lists}
+use Rattle.ft_owned_lists.specs.OwnedLists.{Lists}
 use Rattle.ft_laws.proofs.Tests.{by_test}
 use Rattle.ft_cells.specs.Cells.{Cells}
 use Rattle.ft_tree.specs.Sweep.{IsAccounted}

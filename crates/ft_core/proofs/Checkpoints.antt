@@ -4,7 +4,7 @@ use Rattle.std.specs.Prelude.{nat_lt, MatchBool}
 use Rattle.std.proofs.lemmas.Bool.{false≢true, and_parts, lt-ltb}
 use Rattle.std.specs.Ordering.{nat_cmp}
 use Rattle.std.specs.FinMap as finite
-use Rattle.ft_base.specs.OwnedLists.{Lists}
+use Rattle.ft_owned_lists.specs.OwnedLists.{Lists}
 use Rattle.ft_laws.specs.Lists.{In}
 use Rattle.ft_laws.proofs.Tests.{by_test}
 use Rattle.ft_cells.specs.declared.cell.Cell.{Cell}

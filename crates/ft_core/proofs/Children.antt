@@ -2,7 +2,7 @@
 use Rattle.std.proofs.Common.{◌≡◌, ℕ, Bool, true, false, cond, List, [], ◌∷◌, Option, Some, None, is_some, inl, inr, length, arith, refl, sym, ap, subst, ◌∙◌}
 use Rattle.std.specs.Prelude.{nat_lt, MatchBool}
 use Rattle.std.proofs.lemmas.Bool.{false≢true, cases_lt, lt-ltb, le-ltb}
-use Rattle.ft_base.specs.OwnedLists.{Lists}
+use Rattle.ft_owned_lists.specs.OwnedLists.{Lists}
 use Rattle.ft_laws.specs.Lists.{Each, In}
 use Rattle.ft_laws.proofs.Tests.{by_test}
 use Rattle.ft_cells.specs.Cells.{Cells}

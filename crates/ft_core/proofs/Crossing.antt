@@ -2,8 +2,8 @@
 -- that holds a snapshot, which has no bytes, nor of what such a type stands in.
 use denote.Param.Send.{IsSend, sendable}
 use Rattle.std.proofs.Crossing.{crosses}
-use Rattle.ft_base.proofs.owned_lists.OwnedLists.TheSendSync as chains
-use Rattle.ft_base.proofs.paged_table.PagedTable.TheSendSync as paged_table
+use Rattle.ft_owned_lists.proofs.owned_lists.OwnedLists.TheSendSync as chains
+use Rattle.ft_paged.proofs.paged_table.PagedTable.TheSendSync as paged_table
 use Rattle.ft_base.proofs.table.Table.TheSendSync as table
 use Rattle.ft_path.proofs.name.Name.TheSendSync as name
 use Rattle.ft_body.proofs.Crossing.{BodyUndo-send}

@@ -1,6 +1,6 @@
 -- The parts of a core, put together, and its state.
 use Rattle.std.proofs.Common.{◌≡◌, ap}
-use Rattle.ft_base.specs.OwnedLists.{Lists}
+use Rattle.ft_owned_lists.specs.OwnedLists.{Lists}
 use Rattle.ft_cells.specs.Cells.{Cells}
 use Rattle.ft_undo.specs.declared.logs.LogRecord.{LogRecord}
 use Rattle.ft_forest.specs.Transactions.{Transactions}

@@ -2,7 +2,7 @@
 use Rattle.std.proofs.Common.{◌≡◌, ◌<◌, ◌≤◌, ◌+◌, ℕ, true, List, [], ◌∷◌, inl, inr, is_some, map, arith, refl, sym, ap, subst, ◌∙◌}
 use Rattle.std.specs.FinMap as finite
 use Rattle.std.specs.FinSet as set
-use Rattle.ft_base.specs.OwnedLists.{Lists, list_in}
+use Rattle.ft_owned_lists.specs.OwnedLists.{Lists, list_in}
 use Rattle.ft_laws.specs.Lists.{Each, In}
 use Rattle.ft_laws.specs.Calls.{Reverts}
 use Rattle.ft_laws.specs.Effects.{Has, before, write_all, reversal_of}

@@ -6,7 +6,7 @@ use Rattle.std.specs.Cmp.{nat_cmp_total, unsigned_tied}
 use Rattle.std.specs.FinMap as finite
 use Rattle.std.specs.FinSet as set
 use Rattle.ft_history.proofs.Words.{put_other}
-use Rattle.ft_base.specs.OwnedLists.{Lists}
+use Rattle.ft_owned_lists.specs.OwnedLists.{Lists}
 use Rattle.ft_history.specs.Logs.{put}
 use Rattle.ft_undo.specs.declared.logs.LogRecord.{LogRecord}
 use Rattle.ft_undo.specs.Logs.{is_open, AreOpen}

@@ -1,7 +1,7 @@
 -- What an owned call wrote, its owner has locked.
 use Rattle.std.proofs.Common.{◌≡◌, ℕ, true, Some, inl, inr, refl, subst, ◌∙◌}
 use Rattle.std.proofs.lemmas.Bool.{or_cases}
-use Rattle.ft_base.specs.OwnedLists.{Lists}
+use Rattle.ft_owned_lists.specs.OwnedLists.{Lists}
 use Rattle.ft_laws.specs.Lists.{In}
 use Rattle.ft_cells.specs.declared.cell.Cell.{Cell}
 use Rattle.ft_cells.specs.Cells.{Cells}

@@ -5,7 +5,7 @@ use Rattle.std.proofs.lemmas.Option.{none-some}
 use Rattle.std.proofs.lemmas.Bool.{false≢true, and_parts, or_right, leb-false, lt-leb, lt-ltb}
 use Rattle.std.specs.FinMap as finite
 use Rattle.std.specs.FinSet as set
-use Rattle.ft_base.specs.OwnedLists.{Lists}
+use Rattle.ft_owned_lists.specs.OwnedLists.{Lists}
 use Rattle.ft_laws.specs.Lists.{In}
 use Rattle.ft_laws.specs.Laws.{is_hidden, holds}
 use Rattle.ft_laws.specs.Runs.{Along}

@@ -2,7 +2,7 @@
 use Rattle.std.proofs.Common.{◌≡◌, ◌<◌, ◌≤◌, ℕ, List, [], ◌∷◌, Option, Some, None, inl, inr, map, arith, refl, sym, ap, subst, ◌∙◌}
 use Rattle.std.specs.Option.{option_map, option_flatten}
 use Rattle.std.specs.FinMap as finite
-use Rattle.ft_base.specs.OwnedLists.{Lists, list_in}
+use Rattle.ft_owned_lists.specs.OwnedLists.{Lists, list_in}
 use Rattle.ft_laws.specs.Lists.{In}
 use Rattle.ft_cells.specs.Cells.{Cells}
 use Rattle.ft_tree.specs.Sound.{AreSoundCells}

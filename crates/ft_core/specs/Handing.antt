@@ -1,7 +1,7 @@
 -- A transaction hands this to its parent when it commits, and at the top level to nobody. (Moss,
 -- Nested Transactions, MIT 1981, commit of a transaction.)
 use Rattle.std.specs.Prelude.{◌≡◌, ◌≢◌, ℕ, true, Option, Some, None}
-use Rattle.ft_base.specs.OwnedLists.{Lists}
+use Rattle.ft_owned_lists.specs.OwnedLists.{Lists}
 use Rattle.ft_undo.specs.declared.logs.LogRecord.{LogRecord}
 use Rattle.ft_undo.specs.Logs.{is_open}
 use Rattle.ft_lock_rules.specs.Locks.{LockTable, AreInherited, AreReleased, is_opened}

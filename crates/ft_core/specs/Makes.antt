@@ -1,6 +1,6 @@
 -- A call that is made on the parts of a core.
 use Rattle.std.specs.Prelude.{◌≡◌, ℕ, List, map}
-use Rattle.ft_base.specs.OwnedLists.{list_in}
+use Rattle.ft_owned_lists.specs.OwnedLists.{list_in}
 use Rattle.ft_laws.specs.Effects.{before}
 use Rattle.ft_cells.specs.Cells.{Cells}
 use Rattle.ft_posix.specs.declared.call.Access.{Access}

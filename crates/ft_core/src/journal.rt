@@ -9,10 +9,11 @@ ghost use Rattle.ft_core.specs.Noted.{event_of};
 
 use crate::LAST_NUMBER;
 use crate::past::{Grant, Past, Seen, Turn};
-use ft_base::{Memory, PagedTable, Table};
+use ft_base::{Memory, Table};
 use ft_calls::{Call, Reply};
 use ft_forest::TxnId;
 use ft_lock_rules::Rule;
+use ft_paged::PagedTable;
 use ft_tree::Tree;
 use std::alloc::Global;
 use std::marker::Model;

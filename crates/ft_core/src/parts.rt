@@ -1,6 +1,6 @@
 // The parts of a core: the tree, and what is kept alongside it.
 ghost use Rattle.std.specs.Prelude.{◌≡◌, ◌<◌, ◌≤◌, ◌^◌, ◌+◌, ◌∷◌, List, [], Some, None, cond, true, false, length, take, IfOk, OnOk, OnErr};
-ghost use Rattle.ft_base.specs.OwnedLists.{list_in};
+ghost use Rattle.ft_owned_lists.specs.OwnedLists.{list_in};
 ghost use Rattle.ft_tree.specs.Sound.{AreSoundCells, IsFree};
 ghost use Rattle.ft_posix.specs.Computes.{reply_of, writes_of};
 ghost use Rattle.ft_posix.specs.Edits.{CanEditAll, Apart};

@@ -6,7 +6,8 @@ ghost use Rattle.ft_forest.specs.Records.{no_links, links_of, put_at, with_gap_c
 
 use crate::record::{LiveRecord, Record};
 use crate::state::State;
-use ft_base::{Memory, PagedList, PagedTable};
+use ft_base::Memory;
+use ft_paged::{PagedList, PagedTable};
 use std::alloc::Global;
 
 /// All transactions since the base in order, what is kept in addition for the live ones by their

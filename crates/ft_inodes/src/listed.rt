@@ -4,7 +4,7 @@ ghost use Rattle.std.specs.Iterator.{YieldsFirstBy, item_count};
 use crate::directory::Directory;
 use crate::file::File;
 use crate::inode::Inode;
-use ft_base::PagedEntries;
+use ft_paged::PagedEntries;
 use slab::Slab;
 use std::marker::Model;
 

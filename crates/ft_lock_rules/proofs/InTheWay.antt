@@ -30,7 +30,7 @@ use Rattle.ft_lock_rules.specs.declared.rule.Rule.{Rule}
 use Rattle.ft_lock_rules.specs.Rules.{is_strict}
 use Rattle.ft_lock_rules.specs.LockModes.{no_marks, held_of, has_mark, conflicts_with}
 use Rattle.ft_laws.specs.Lists.{Each, Pairs, In}
-use Rattle.ft_base.specs.OwnedLists.{Lists}
+use Rattle.ft_owned_lists.specs.OwnedLists.{Lists}
 use Rattle.ft_lock_rules.specs.declared.line.LockLine.{LockLine}
 use Rattle.ft_lock_rules.specs.Locks.{LockTable, has_lock, is_held, line_access, counts, IsInTheWay, AreBlockers}
 use Rattle.ft_lock_rules.specs.Seen.{has_mark_of, has_line, table_of}

@@ -7,7 +7,7 @@ use Rattle.std.specs.Result.{OnOk, OnErr, is_err}
 use Rattle.std.specs.Ordering.{nat_cmp, eq_by_cmp}
 use Rattle.std.specs.Cmp.{nat_cmp_total, eq_by_cmp_equiv, unsigned_tied}
 use Rattle.std.specs.FinMap as finite
-use Rattle.ft_base.specs.OwnedLists.{Lists, list_in, moved, first_moved}
+use Rattle.ft_owned_lists.specs.OwnedLists.{Lists, list_in, moved, first_moved}
 use Rattle.ft_cells.specs.declared.cell.Cell.{Cell}
 use Rattle.ft_cells.specs.CellOrder.{cell_cmp, cell_cmp_total, same_cell, same_cell-is}
 use Rattle.ft_lock_rules.proofs.Places.{hand_same, marks-missing}

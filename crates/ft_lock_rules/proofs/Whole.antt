@@ -6,7 +6,7 @@ use Rattle.std.specs.List.{list_any}
 use Rattle.std.specs.Option.{option_map}
 use Rattle.std.specs.Cmp.{eq_by_cmp_equiv}
 use Rattle.std.specs.FinMap as finite
-use Rattle.ft_base.specs.OwnedLists.{Lists, list_in, spliced}
+use Rattle.ft_owned_lists.specs.OwnedLists.{Lists, list_in, spliced}
 use Rattle.ft_cells.specs.declared.cell.Cell.{Cell}
 use Rattle.ft_cells.specs.CellOrder.{cell_cmp_total, same_cell, same_cell-is}
 use Rattle.ft_lock_rules.specs.Cells.{Cells, marks_at, joined_marks, passed_to, after_hand}

@@ -3,7 +3,7 @@ use Rattle.std.specs.Prelude.{◌≡◌, ◌==◌, ◌&&◌, ℕ, Bool, false, c
 use Rattle.std.specs.List.{list_any}
 use Rattle.std.specs.FinMap as finite
 use Rattle.std.specs.Coded.{Coded, code_by, coded×}
-use Rattle.ft_base.specs.OwnedLists.{Lists, coded_lists, list_in}
+use Rattle.ft_owned_lists.specs.OwnedLists.{Lists, coded_lists, list_in}
 use Rattle.ft_cells.specs.declared.cell.Cell.{Cell}
 use Rattle.ft_cells.specs.contracts.cell.Cell as cell
 use Rattle.ft_cells.specs.CellOrder.{same_cell}

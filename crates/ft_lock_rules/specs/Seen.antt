@@ -3,7 +3,7 @@ use Rattle.std.specs.Prelude.{◌≡◌, ℕ, Bool, true, false, cond, not, ◌=
 use Rattle.std.specs.List.{list_any, flat_map}
 use Rattle.std.specs.FinMap as finite
 use Rattle.std.specs.FinSet as set
-use Rattle.ft_base.specs.OwnedLists.{Lists, IsOpen}
+use Rattle.ft_owned_lists.specs.OwnedLists.{Lists, IsOpen}
 use Rattle.ft_cells.specs.declared.cell.Cell.{Cell}
 use Rattle.ft_posix.specs.Posix.{file_of}
 use Rattle.ft_posix.specs.declared.call.Mode.TheVariants.{Read as ReadMode, Write as WriteMode}

@@ -12,7 +12,7 @@ use Rattle.std.specs.FinMap as finite
 use Rattle.std.specs.FinSet as set
 use Rattle.slab.specs.Slab.{Slab, get, slab_len, entries, entries_from}
 use Rattle.ft_laws.proofs.Tests.{by_test}
-use Rattle.ft_base.specs.OwnedLists.{Lists, list_in}
+use Rattle.ft_owned_lists.specs.OwnedLists.{Lists, list_in}
 use Rattle.ft_cells.specs.declared.cell.Cell.{Cell}
 use Rattle.ft_cells.specs.CellOrder.{cell_cmp, cell_cmp_total, same_cell, same_cell-is}
 use Rattle.ft_posix.specs.declared.call.Mode.{Mode}

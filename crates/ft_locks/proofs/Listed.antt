@@ -15,7 +15,7 @@ use Rattle.std.specs.Cmp.{IsEquivalence, nat_eq_equiv, unsigned_tied, eq_by_cmp_
 use Rattle.std.specs.FinMap as finite
 use Rattle.ft_laws.specs.Lists.{Each, Pairs, In}
 use Rattle.ft_laws.proofs.Tests.{by_test}
-use Rattle.ft_base.specs.OwnedLists.{Lists}
+use Rattle.ft_owned_lists.specs.OwnedLists.{Lists}
 use Rattle.ft_cells.specs.declared.cell.Cell.{Cell}
 use Rattle.ft_cells.specs.CellOrder.{cell_cmp, cell_cmp_total, same_cell, same_cell-is}
 use Rattle.ft_posix.specs.declared.call.Mode.{Mode}

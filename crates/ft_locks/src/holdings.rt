@@ -2,7 +2,7 @@
 ghost use Rattle.std.specs.Prelude.{◌≡◌, ◌≢◌, ◌+◌, ◌==◌, ℕ, Bool, cond, true, false, [], ◌∷◌, length, None, Some, IsSome, IfSome, IfNone, IfOk, OnOk, OnErr};
 ghost use Rattle.std.specs.Option.{option_map, option_copied};
 ghost use Rattle.std.specs.FinMap as finite;
-ghost use Rattle.ft_base.specs.OwnedLists.{list_in, IsOpen};
+ghost use Rattle.ft_owned_lists.specs.OwnedLists.{list_in, IsOpen};
 ghost use Rattle.ft_cells.specs.declared.cell.Cell.{Cell};
 ghost use Rattle.ft_cells.specs.CellOrder.{same_cell};
 ghost use Rattle.std.specs.List.{list_any};
@@ -12,8 +12,9 @@ ghost use Rattle.ft_lock_rules.specs.Holdings.{AreOpenStill, AreSingle, AreUsed,
 
 use crate::bulk_released::BulkReleased;
 use crate::cells::LockedCells;
-use ft_base::{Memory, OwnedLists, Values};
+use ft_base::Memory;
 use ft_lock_rules::{CellLocks, LockKind, LockLine, LockModes};
+use ft_owned_lists::{OwnedLists, Values};
 use ft_posix::Access;
 use ft_tree::Cell;
 use std::alloc::Global;

@@ -3,7 +3,7 @@ ghost use Rattle.std.specs.Prelude.{◌≡◌, ◌≢◌, ◌<◌, ◌≤◌, �
 ghost use Rattle.ft_cells.specs.declared.cell.Cell.{Cell as CellOf};
 ghost use Rattle.std.specs.FinMap as finite;
 ghost use Rattle.std.specs.FinSet as set;
-ghost use Rattle.ft_base.specs.OwnedLists.{list_in, IsOpen};
+ghost use Rattle.ft_owned_lists.specs.OwnedLists.{list_in, IsOpen};
 ghost use Rattle.ft_lock_rules.specs.Holdings.{AreSingle};
 ghost use Rattle.ft_lock_rules.specs.Seen.{table_of, IsKept, locks_in, locks_without};
 ghost use Rattle.ft_locks.specs.BulkReleased.{left_in, with_bulk, seen_as, IsTaken};

@@ -22,8 +22,6 @@ mod giving;
 mod held;
 mod into;
 mod made;
-#[cfg(test)]
-mod of_status;
 mod removal;
 mod script_files;
 mod skipping;

@@ -6,7 +6,7 @@ use Rattle.std.specs.Option.{unwrap_or, option_copied_mut}
 use Rattle.std.specs.Borrow.{MutBor}
 use Rattle.std.specs.FinMap as finite
 use Rattle.ft_laws.proofs.Tests.{by_number}
-use Rattle.ft_base.specs.OwnedLists.{Lists, list_in}
+use Rattle.ft_owned_lists.specs.OwnedLists.{Lists, list_in}
 use Rattle.ft_history.specs.Logs.{pushed, popped, rest}
 use Rattle.ft_history.proofs.Words.{put_same, put_other}
 use Rattle.ft_undo.specs.declared.logs.LogRecord.{LogRecord}

@@ -5,7 +5,7 @@ use Rattle.std.specs.Cmp.{nat_cmp_total, unsigned_tied}
 use Rattle.std.specs.Ordering.{nat_cmp}
 use Rattle.std.specs.FinMap as finite
 use Rattle.ft_laws.proofs.Tests.{by_number, by_option}
-use Rattle.ft_base.specs.OwnedLists.{Lists, list_in, spliced}
+use Rattle.ft_owned_lists.specs.OwnedLists.{Lists, list_in, spliced}
 use Rattle.ft_history.specs.Logs.{put, rest, popped, handed}
 use Rattle.ft_history.proofs.Words.{put_same, put_other, by_list}
 use Rattle.ft_undo.specs.declared.logs.LogRecord.{LogRecord}

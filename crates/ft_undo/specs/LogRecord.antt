@@ -1,6 +1,6 @@
 -- A call that was made, and kept in the log of a transaction. (Moss 1981, state restoration.)
 use Rattle.std.specs.Prelude.{◌≡◌, ℕ, List, map}
-use Rattle.ft_base.specs.OwnedLists.{Lists, list_in}
+use Rattle.ft_owned_lists.specs.OwnedLists.{Lists, list_in}
 use Rattle.ft_laws.specs.Effects.{before}
 use Rattle.ft_cells.specs.Cells.{Cells}
 use Rattle.ft_posix.specs.Outcomes.{Write}

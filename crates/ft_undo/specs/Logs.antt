@@ -4,7 +4,7 @@
 -- that its parent had.
 use Rattle.std.specs.Prelude.{◌≡◌, ℕ, Bool, List, [], ◌∷◌, Option, Some, None}
 use Rattle.std.specs.FinMap as finite
-use Rattle.ft_base.specs.OwnedLists.{Lists, list_in}
+use Rattle.ft_owned_lists.specs.OwnedLists.{Lists, list_in}
 use Rattle.ft_undo.specs.declared.logs.LogRecord.{LogRecord}
 
 -- a transaction may be given undos of its calls, from its begin to its end

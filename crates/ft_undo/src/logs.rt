@@ -1,7 +1,7 @@
 // The undo logs of the transactions.
 ghost use Rattle.std.specs.Prelude.{◌≡◌, ◌≢◌, ◌<◌, ◌^◌, [], true, false, Some, None, length, OnOk, OnErr, IfErr};
 ghost use Rattle.std.specs.Option.{option_map};
-ghost use Rattle.ft_base.specs.OwnedLists.{list_in};
+ghost use Rattle.ft_owned_lists.specs.OwnedLists.{list_in};
 ghost use Rattle.ft_history.specs.Logs.{put, pushed, popped, handed};
 ghost use Rattle.ft_posix.specs.Computes.{writes_of};
 ghost use Rattle.ft_posix.specs.Edits.{CanEditAll, Apart};
@@ -9,8 +9,9 @@ ghost use Rattle.ft_undo.specs.Logs.{is_open, newest_of, AreLists, AreOpen};
 ghost use Rattle.ft_undo.specs.LogRecord.{IsLogged};
 
 use crate::undo::Undo;
-use ft_base::{Memory, OwnedLists};
+use ft_base::Memory;
 use ft_calls::Edits;
+use ft_owned_lists::OwnedLists;
 use ft_tree::Tree;
 use std::alloc::{AllocFailed, Global};
 use std::marker::Model;
@@ -38,7 +39,7 @@ impl Drop for Logs {
 }
 
 impl Model for Logs {
-    ghost use Rattle.ft_base.specs.OwnedLists.{Lists, coded_lists};
+    ghost use Rattle.ft_owned_lists.specs.OwnedLists.{Lists, coded_lists};
     ghost use Rattle.ft_undo.specs.declared.logs.LogRecord.{LogRecord};
     ghost use Rattle.ft_undo.specs.contracts.logs.LogRecord as logged;
 

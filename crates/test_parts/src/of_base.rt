@@ -1,5 +1,6 @@
 // No clause states this: printed text, and that long lists are joined at once.
-use ft_base::{Memory, OwnedLists};
+use ft_base::Memory;
+use ft_owned_lists::OwnedLists;
 use std::test::Fail;
 
 #[test]

@@ -1,5 +1,5 @@
 use Rattle.std.proofs.Common.{◌≡◌, length}
-use Rattle.ft_base.specs.OwnedLists.{list_in}
+use Rattle.ft_owned_lists.specs.OwnedLists.{list_in}
 use Rattle.ft_lock_rules.specs.Seen.{table_of, IsKept}
 use Rattle.ft_locks.proofs.locks.take_listed.Given as goal
 

@@ -1,7 +1,7 @@
 use Rattle.std.proofs.Common.{rules, ◌<◌, ◌^◌, ◌≡◌, ◌∙◌, ◌+◌, ℕ, Some, None, not, false, refl, ap, sym, subst, arith}
 use Rattle.ft_core.proofs.Memos.{forgotten}
 use Rattle.std.specs.FinMap as finite
-use Rattle.ft_base.specs.OwnedLists.{list_in}
+use Rattle.ft_owned_lists.specs.OwnedLists.{list_in}
 use Rattle.ft_posix.specs.Posix.{posix_calls}
 use Rattle.ft_forest.specs.Transactions.{Transactions, HasAborted, IsLastOf}
 use Rattle.ft_lock_rules.specs.Locks.{LockTable, AreReleased, is_opened}

@@ -1,7 +1,7 @@
 use Rattle.std.proofs.Common.{◌-◌, length, drop, arith, refl, subst}
 use Rattle.std.specs.Prelude.{slice_range}
 use Rattle.std.proofs.lemmas.List.{take_all, length-drop}
-use Rattle.ft_base.specs.OwnedLists.{list_in}
+use Rattle.ft_owned_lists.specs.OwnedLists.{list_in}
 use Rattle.ft_history.specs.Logs.{pushed}
 use Rattle.ft_lock_rules.specs.Locks.{AreGranted}
 use Rattle.ft_undo.specs.Logs.{AreLists}

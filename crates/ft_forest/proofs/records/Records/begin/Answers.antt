@@ -1,6 +1,6 @@
 use Rattle.std.proofs.Common.{◌≡◌, ◌∙◌, ◌+◌, ◌^◌, ◌<◌, ◌∷◌, ◌++◌, [], ℕ, Bool, true, Option, Some, None, sym, ap, subst, arith}
 use Rattle.std.specs.FinMap as finite
-use Rattle.ft_base.specs.Roomy.{RoomyList}
+use Rattle.ft_paged.specs.Roomy.{RoomyList}
 use Rattle.ft_history.specs.Logs.{put}
 use Rattle.ft_history.proofs.Words.{put_same, put_other, by_number}
 use Rattle.ft_forest.specs.Records.{Links, links_of, links_by, put_at, put_youngest}

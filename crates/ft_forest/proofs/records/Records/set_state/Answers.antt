@@ -1,6 +1,6 @@
 use Rattle.std.proofs.Common.{Some, sym, ap, ◌∙◌}
 use Rattle.std.proofs.lemmas.Option.{slice_get-get_or}
-use Rattle.ft_base.specs.Roomy.{RoomyList}
+use Rattle.ft_paged.specs.Roomy.{RoomyList}
 use Rattle.ft_forest.specs.Records.{links_by}
 use Rattle.ft_forest.proofs.Setting.{write-state}
 use Rattle.ft_forest.proofs.records.Records.set_state.Goals as goal

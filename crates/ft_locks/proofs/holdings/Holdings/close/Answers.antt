@@ -1,6 +1,6 @@
 use Rattle.std.proofs.Common.{[], ap, sym, refl, ◌∙◌}
 use Rattle.std.specs.FinMap as finite
-use Rattle.ft_base.specs.OwnedLists.{list_in}
+use Rattle.ft_owned_lists.specs.OwnedLists.{list_in}
 use Rattle.ft_lock_rules.specs.Holdings.{Held, lists_under}
 use Rattle.ft_lock_rules.proofs.Joining.{list-remove, list_again, joined-same}
 use Rattle.ft_lock_rules.proofs.Under.{list-under, remove-under, none-under, used-closed}

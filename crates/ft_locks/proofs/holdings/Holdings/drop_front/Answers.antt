@@ -1,7 +1,7 @@
 use Rattle.std.proofs.Common.{ℕ, cond, None, IsSome, is_some, ◌∷◌, ap, sym, ◌∙◌, drop}
 use Rattle.std.specs.FinMap as finite
 use Rattle.std.proofs.lemmas.Option.{IfSome_then}
-use Rattle.ft_base.specs.OwnedLists.{list_in}
+use Rattle.ft_owned_lists.specs.OwnedLists.{list_in}
 use Rattle.ft_lock_rules.specs.Cells.{is_at, marks_at}
 use Rattle.ft_lock_rules.specs.Holdings.{Held, has_place, cells_under, lists_under}
 use Rattle.ft_lock_rules.proofs.Cases.{none_any, none_then}

@@ -1,6 +1,6 @@
 use Rattle.std.proofs.Common.{◌+◌, length, drop, IsSome, is_some, ap, sym, ◌∙◌, add-one}
 use Rattle.std.specs.FinMap as finite
-use Rattle.ft_base.specs.OwnedLists.{list_in}
+use Rattle.ft_owned_lists.specs.OwnedLists.{list_in}
 use Rattle.ft_lock_rules.specs.Cells.{marks_at}
 use Rattle.ft_lock_rules.specs.Holdings.{Held, cells_under, lists_under}
 use Rattle.ft_locks.proofs.Slots.{if_known, and_some}

@@ -1,5 +1,5 @@
 use Rattle.std.proofs.Common.{sym, ap, ◌∙◌}
-use Rattle.ft_base.specs.OwnedLists.{list_in}
+use Rattle.ft_owned_lists.specs.OwnedLists.{list_in}
 use Rattle.ft_lock_rules.specs.Holdings.{Held, cells_under}
 use Rattle.ft_lock_rules.proofs.Under.{list-under}
 use Rattle.ft_locks.proofs.holdings.Holdings.hand_over.Goals as goal

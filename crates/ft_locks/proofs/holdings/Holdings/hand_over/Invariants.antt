@@ -1,5 +1,5 @@
 use Rattle.std.proofs.Common.{◌≡◌, ℕ, length}
-use Rattle.ft_base.specs.OwnedLists.{list_in}
+use Rattle.ft_owned_lists.specs.OwnedLists.{list_in}
 use Rattle.ft_cells.specs.declared.cell.Cell.{Cell}
 use Rattle.ft_lock_rules.specs.Cells.{marks_at, after_hand}
 use Rattle.ft_lock_rules.specs.Holdings.{AreOpenStill}

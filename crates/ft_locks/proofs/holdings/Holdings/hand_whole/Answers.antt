@@ -1,7 +1,7 @@
 use Rattle.std.proofs.Common.{is_some, ap, sym, subst, ◌∙◌}
 use Rattle.std.specs.List.{list_any}
 use Rattle.std.specs.FinMap as finite
-use Rattle.ft_base.specs.OwnedLists.{list_in}
+use Rattle.ft_owned_lists.specs.OwnedLists.{list_in}
 use Rattle.ft_cells.specs.CellOrder.{same_cell}
 use Rattle.ft_lock_rules.specs.Holdings.{Held, AreSingle, AreUsed, cells_under, lists_under}
 use Rattle.ft_lock_rules.proofs.Whole.{whole_gone, whole_still, joined-whole}

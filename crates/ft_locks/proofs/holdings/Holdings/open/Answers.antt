@@ -1,6 +1,6 @@
 use Rattle.std.proofs.Common.{refl, sym, ap, subst, ◌∙◌}
 use Rattle.std.specs.FinMap as finite
-use Rattle.ft_base.specs.OwnedLists.{list_in}
+use Rattle.ft_owned_lists.specs.OwnedLists.{list_in}
 use Rattle.ft_lock_rules.specs.Holdings.{Held, AreUsed, cells_under, lists_under}
 use Rattle.ft_lock_rules.proofs.Cases.{ok_then, err_then}
 use Rattle.ft_lock_rules.proofs.Joining.{joined-same, opened_lists}

@@ -1,6 +1,6 @@
 use Rattle.std.proofs.Common.{ℕ, Ok, refl, sym, ap, subst, ◌∙◌}
 use Rattle.std.specs.FinMap as finite
-use Rattle.ft_base.specs.OwnedLists.{list_in}
+use Rattle.ft_owned_lists.specs.OwnedLists.{list_in}
 use Rattle.ft_lock_rules.specs.Holdings.{Held, AreUsed, cells_under, lists_under}
 use Rattle.ft_lock_rules.proofs.Joining.{joined-same, opened_lists}
 use Rattle.ft_lock_rules.proofs.Under.{list-under, insert-under, open-under}

@@ -1,6 +1,6 @@
 use Rattle.std.proofs.Common.{IsSome, is_some, ◌∷◌, ap, sym, ◌∙◌}
 use Rattle.std.specs.FinMap as finite
-use Rattle.ft_base.specs.OwnedLists.{list_in}
+use Rattle.ft_owned_lists.specs.OwnedLists.{list_in}
 use Rattle.ft_lock_rules.specs.Cells.{is_at, marks_at}
 use Rattle.ft_lock_rules.specs.Holdings.{Held, has_place, lists_under}
 use Rattle.ft_locks.proofs.Slots.{if_known, and_some}

@@ -1,7 +1,7 @@
 use Rattle.std.proofs.Common.{false, nat_cmp, ap, subst, sym, ◌∙◌}
 use Rattle.std.specs.Option.{is_some}
 use Rattle.std.specs.FinMap as finite
-use Rattle.ft_base.specs.OwnedLists.{list_in}
+use Rattle.ft_owned_lists.specs.OwnedLists.{list_in}
 use Rattle.ft_lock_rules.specs.Holdings.{AreSingle}
 use Rattle.ft_lock_rules.specs.Seen.{table_of}
 use Rattle.ft_lock_rules.proofs.Handing.{seen_none}

@@ -1,7 +1,7 @@
 use Rattle.std.proofs.Common.{arith, refl, ap, ◌∙◌}
 use Rattle.std.specs.FinMap as finite
 use Rattle.std.specs.FinSet as set
-use Rattle.ft_base.specs.OwnedLists.{list_in}
+use Rattle.ft_owned_lists.specs.OwnedLists.{list_in}
 use Rattle.ft_lock_rules.specs.Locks.{LockTable}
 use Rattle.ft_lock_rules.specs.Seen.{table_of}
 use Rattle.ft_lock_rules.proofs.Cases.{ok_then, err_then}

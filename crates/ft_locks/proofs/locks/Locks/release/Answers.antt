@@ -2,7 +2,7 @@ use Rattle.std.proofs.Common.{◌≡◌, true, false, not, refl, sym, is_some, a
 use Rattle.std.specs.FinMap as finite
 use Rattle.std.proofs.lemmas.Bool.{false≢true, eq-eqb}
 use Rattle.ft_cells.specs.declared.cell.Cell.{Cell}
-use Rattle.ft_base.specs.OwnedLists.{Lists}
+use Rattle.ft_owned_lists.specs.OwnedLists.{Lists}
 use Rattle.ft_lock_rules.specs.Cells.{Cells}
 use Rattle.ft_lock_rules.specs.Holdings.{AreSingle}
 use Rattle.ft_lock_rules.specs.Locks.{LockTable, is_opened, is_locked, AreFreed, AreReleased}

@@ -1,5 +1,5 @@
 use Rattle.std.proofs.Common.{refl, ap, subst, ◌∙◌}
-use Rattle.ft_base.specs.OwnedLists.{Lists, list_in}
+use Rattle.ft_owned_lists.specs.OwnedLists.{Lists, list_in}
 use Rattle.ft_undo.specs.declared.logs.LogRecord.{LogRecord}
 use Rattle.ft_undo.specs.Logs.{is_open, AreLists}
 use Rattle.ft_posix.proofs.Setting.{setting}

@@ -1,5 +1,5 @@
 use Rattle.std.proofs.Common.{ap, ◌∙◌}
-use Rattle.ft_base.specs.OwnedLists.{list_in}
+use Rattle.ft_owned_lists.specs.OwnedLists.{list_in}
 use Rattle.ft_history.proofs.Words.{put_other}
 use Rattle.ft_undo.specs.Logs.{is_open}
 use Rattle.ft_undo.proofs.Logging.{lists-closed, open-closed}

@@ -1,5 +1,5 @@
 use Rattle.std.proofs.Common.{◌≡◌, ◌≢◌, ℕ, length}
-use Rattle.ft_base.specs.OwnedLists.{list_in}
+use Rattle.ft_owned_lists.specs.OwnedLists.{list_in}
 use Rattle.ft_undo.specs.Logs.{is_open, AreOpen}
 use Rattle.ft_undo.proofs.logs.Logs.close.Given as goal
 

@@ -1,0 +1,4 @@
+pub mod ChainShape
+pub mod ChainMoves
+pub mod ChainCalls
+pub mod ChainWalks

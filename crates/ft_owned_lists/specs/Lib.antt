@@ -1,0 +1,4 @@
+-- What callers cite.
+pub mod OwnedLists
+pub mod Linked
+pub mod Lent
