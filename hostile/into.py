@@ -1,10 +1,10 @@
 """Saves into an existing directory: exactly what differs is made, and nothing else."""
 import os
-import resource
 import shutil
-import signal
 import stat
 import subprocess
+
+import playing
 
 IS_ROOT = os.geteuid() == 0
 
@@ -195,11 +195,7 @@ def failing(round_of, program, work, replies):
     subprocess.run(["cp", "-a", f"{work}/into new", out], check=True)
     round_of.put(f"{out}/long", b"old")
     old = inode(f"{out}/long")
-
-    def limits():
-        signal.signal(signal.SIGXFSZ, signal.SIG_IGN)
-        resource.setrlimit(resource.RLIMIT_FSIZE, (100_000, 100_000))
-
+    limits = playing.short_files(100_000)
     ran = round_of.Ran(program, ["save", "--into", out], replies, limits)
     check = round_of.check
     check("a file that can't be written", ran.status == 1 and ran.err.startswith(b"fault: Write /long\n"), ran.err)

@@ -40,7 +40,6 @@ DELAY = 300
 def tests():
     return [
         ("jobs run side by side", run_side_by_side),
-        ("outcome of jobs can't be written", outcome_is_not_written),
         *refusals.tests("jobs are", run_refused),
         ("jobs are refused threads", refused_threads),
         ("jobs are refused threads from some time on", refused_threads_for_good),
@@ -72,18 +71,6 @@ def run_side_by_side(bench):
             fault = f"not all have committed: {ran}"
         if fault is not None:
             return fault
-    return None
-
-
-def outcome_is_not_written(bench):
-    """A write at each byte of the outcome that fails, is interrupted or takes nothing."""
-    plan, text = scripts.plan_named("jobs_program_text")
-    for number in range(1, len(text) + 1):
-        how = ("fail", "interrupt", "nothing")[number % 3]
-        ran, _ = bench.unkind.run(["jobs", plan], write=number, write_how=how, write_bytes=1)
-        fault = playing.fault_of_end(ran, text[: number - 1], "Write")
-        if fault is not None:
-            return f"write {number}, {how}: {fault}"
     return None
 
 

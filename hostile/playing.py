@@ -22,16 +22,22 @@ def run(words, script=b"", environment=None):
         return Run(ended.returncode, written(text), written(errors))
 
 
-def run_with_short_errors(words, script, most):
-    """Runs a program whose standard error is a file that takes at most so many bytes."""
+def short_files(most):
+    """A `preexec_fn` by which files take at most so many bytes, and a write beyond that fails."""
 
-    def limits():
+    def limit():
         signal.signal(signal.SIGXFSZ, signal.SIG_IGN)
         resource.setrlimit(resource.RLIMIT_FSIZE, (most, most))
 
+    return limit
+
+
+def run_with_short_errors(words, script, most):
+    """Runs a program whose standard error is a file that takes at most so many bytes."""
     with tempfile.TemporaryFile() as errors:
         streams = {"input": script, "stdout": subprocess.PIPE, "stderr": errors}
-        ended = subprocess.run(words, preexec_fn=limits, timeout=MOST_SECONDS, **streams)
+        limit = short_files(most)
+        ended = subprocess.run(words, preexec_fn=limit, timeout=MOST_SECONDS, **streams)
         return Run(ended.returncode, ended.stdout, written(errors))
 
 
@@ -41,8 +47,8 @@ def written(file):
 
 
 def fault_of(ran, wanted):
-    """Why a run that must end well with this text has not, or nothing."""
-    if ran.status != 0:
+    """Why a run that must end well, with this text and nothing else, has not, or nothing."""
+    if ran.status != 0 or ran.errors:
         return f"status {ran.status}, {ran.errors!r}"
     if ran.text != wanted:
         return f"expected {shown(wanted)}, got {shown(ran.text)}"

@@ -17,6 +17,7 @@ def tests():
             named.append((name, lambda bench, trial=trial, case=case: trial(bench, case)))
     named.append(("help can't be written", help_is_not_written))
     named.append(("a fault's line can't be written", fault_is_not_written))
+    named.append(("the outcome of jobs can't be written", outcome_is_not_written))
     return named
 
 
@@ -96,18 +97,25 @@ def read_fails(bench, case):
 
 
 def write_fails(bench, case):
-    """A write at each byte that fails, is interrupted or takes nothing."""
-    for number in range(1, len(case.text) + 1):
+    """A write at each byte of the replies fails in some way."""
+    return fault_of_writes(bench, ["play"], case.script, case.text)
+
+
+def outcome_is_not_written(bench):
+    """A write at each byte of the outcome of jobs fails in some way."""
+    plan, text = scripts.plan_named("jobs_program_text")
+    return fault_of_writes(bench, ["jobs", plan], b"", text)
+
+
+def fault_of_writes(bench, words, script, text):
+    """A write at each byte of a text that fails, is interrupted or takes nothing ends the run."""
+    for number in range(1, len(text) + 1):
         how = ("fail", "interrupt", "nothing")[number % 3]
-        fault = fault_of_write(bench, case, number, how)
+        ran, _ = bench.unkind.run(words, script, write=number, write_how=how, write_bytes=1)
+        fault = playing.fault_of_end(ran, text[: number - 1], "Write")
         if fault is not None:
             return f"write {number}, {how}: {fault}"
     return None
-
-
-def fault_of_write(bench, case, number, how):
-    ran, _ = bench.unkind.run(["play"], case.script, write=number, write_how=how, write_bytes=1)
-    return playing.fault_of_end(ran, case.text[: number - 1], "Write")
 
 
 def one_byte_at_a_time(bench, case):

@@ -3,14 +3,13 @@ that fail, other transactions, and refused memory."""
 import ctypes
 import os
 import random
-import resource
 import shutil
-import signal
 import socket
 import stat
 import subprocess
 import tempfile
 
+import playing
 import refusals
 import scripts
 
@@ -361,10 +360,6 @@ def no_room(disk):
     put(disk.at("large"), b"x" * 300_000)
     put(disk.at("old"), b"old")
 
-    def short():
-        signal.signal(signal.SIGXFSZ, signal.SIG_IGN)
-        resource.setrlimit(resource.RLIMIT_FSIZE, (100_000, 100_000))
-
     def fails(name, why, limits=None):
         before = told_of(disk.at(name)) if os.path.lexists(disk.at(name)) else None
         word = coded(name)
@@ -378,7 +373,7 @@ def no_room(disk):
         disk.check("it is as it was", after == before and disk.is_clean())
 
     for name in ("old", "new"):
-        fails(name, b"file too large", short)
+        fails(name, b"file too large", playing.short_files(100_000))
     os.mkdir(disk.at("small"))
     words = ["mount", "-t", "tmpfs", "-o", "size=64k", "tmpfs", disk.at("small")]
     if subprocess.run(words, capture_output=True).returncode != 0:
