@@ -7,6 +7,8 @@ mod of_core;
 #[cfg(test)]
 mod of_shared;
 #[cfg(test)]
+mod of_waiters;
+#[cfg(test)]
 mod of_waits;
 
 /// The tests are all that there is.

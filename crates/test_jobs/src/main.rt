@@ -3,6 +3,8 @@
 #![tactic(auto)]
 
 #[cfg(test)]
+mod of_aborted_jobs;
+#[cfg(test)]
 mod of_command;
 #[cfg(test)]
 mod of_dot;

@@ -27,7 +27,7 @@ trait Steps {
         rt: &R,
         alloc: Global,
         shared: &Shared<J>,
-        reader: Reader<ViewsOf<J>>,
+        reader: &mut Reader<ViewsOf<J>>,
     ) -> Result<bool, Fail>;
 }
 
@@ -54,8 +54,8 @@ fn through_named<J: Sharing, S: Steps, R: Wait>(
     requires { named_by opened ≡ J.origin }
 {
     match opened.named::<J, R>(rt) {
-        Ok((shared, reader)) => {
-            let taken = steps.take(rt, alloc, &shared, reader);
+        Ok((shared, mut reader)) => {
+            let taken = steps.take(rt, alloc, &shared, &mut reader);
             let core = shared.into_core(rt);
             Ok((taken?, core))
         }
@@ -130,7 +130,7 @@ impl Steps for SeenFromPublishOn {
         rt: &R,
         alloc: Global,
         shared: &Shared<J>,
-        mut reader: Reader<ViewsOf<J>>,
+        reader: &mut Reader<ViewsOf<J>>,
     ) -> Result<bool, Fail> {
         let path = FilePath::new(alloc, b"/d".as_slice())?;
         let nothing = Wanted::Failed(0, Errno::ENOENT);
@@ -139,9 +139,9 @@ impl Steps for SeenFromPublishOn {
         shared.commit(rt, TxnId(3))?;
         let unpublished = is_told(&reader.list(&path), nothing);
         let (calls, receipt) = shared.publish(rt)?;
-        let seen = lists(&mut reader, &path, 3, b"b".as_slice());
+        let seen = lists(reader, &path, 3, b"b".as_slice());
         reader.learn(receipt);
-        let learnt = lists(&mut reader, &path, 3, b"b".as_slice());
+        let learnt = lists(reader, &path, 3, b"b".as_slice());
         Ok(played && unseen && unpublished && calls == 3 && seen && learnt)
     }
 }
@@ -162,7 +162,7 @@ impl Steps for LearntByAnother {
         rt: &R,
         alloc: Global,
         shared: &Shared<J>,
-        reader: Reader<ViewsOf<J>>,
+        reader: &mut Reader<ViewsOf<J>>,
     ) -> Result<bool, Fail> {
         let path = FilePath::new(alloc, b"/d".as_slice())?;
         let played = makes_in_directory(rt, alloc, shared)?;
@@ -202,7 +202,7 @@ impl Steps for InCommitOrder {
         rt: &R,
         alloc: Global,
         shared: &Shared<J>,
-        reader: Reader<ViewsOf<J>>,
+        reader: &mut Reader<ViewsOf<J>>,
     ) -> Result<bool, Fail> {
         let script = [
             (Line::Begin, Wanted::Txn(1)),
@@ -258,12 +258,12 @@ impl Steps for FromBase {
         rt: &R,
         alloc: Global,
         shared: &Shared<J>,
-        mut reader: Reader<ViewsOf<J>>,
+        reader: &mut Reader<ViewsOf<J>>,
     ) -> Result<bool, Fail> {
         let root = FilePath::new(alloc, b"/".as_slice())?;
-        let before = lists(&mut reader, &root, 0, b"a".as_slice());
+        let before = lists(reader, &root, 0, b"a".as_slice());
         let calls = published(rt, shared)?;
-        let after = lists(&mut reader, &root, 1, b"ab".as_slice());
+        let after = lists(reader, &root, 1, b"ab".as_slice());
         Ok(before && calls == 1 && after)
     }
 }
@@ -296,10 +296,10 @@ impl Steps for BareBase {
         _rt: &R,
         alloc: Global,
         _shared: &Shared<J>,
-        mut reader: Reader<ViewsOf<J>>,
+        reader: &mut Reader<ViewsOf<J>>,
     ) -> Result<bool, Fail> {
         let root = FilePath::new(alloc, b"/".as_slice())?;
-        Ok(lists(&mut reader, &root, 0, b"".as_slice()))
+        Ok(lists(reader, &root, 0, b"".as_slice()))
     }
 }
 
@@ -340,7 +340,7 @@ impl Steps for FileRead {
         rt: &R,
         alloc: Global,
         shared: &Shared<J>,
-        mut reader: Reader<ViewsOf<J>>,
+        reader: &mut Reader<ViewsOf<J>>,
     ) -> Result<bool, Fail> {
         let script = [
             (Line::Begin, Wanted::Txn(1)),

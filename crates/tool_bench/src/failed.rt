@@ -22,7 +22,8 @@ impl Failed {
     /// The text that reports it.
     pub fn text(self) -> &'static str {
         match self {
-            Failed::Usage => "usage: tool_bench WHAT COUNT SIZE\n",
+            Failed::Usage =>
+                "usage: tool_bench WHAT COUNT SIZE, or tool_bench views MAKES EVERY READS ASKS\n",
             Failed::Memory => "tool_bench: no memory\n",
             Failed::Call => "tool_bench: a call went wrong\n",
         }

@@ -2,26 +2,40 @@
 //! three components, by itself or through a core, or a table of SIZE locks, and then does COUNT
 //! times WHAT to it. It is run under a tool that counts instructions: what one call takes is the
 //! difference between two runs that differ in COUNT.
+//!
+//! `tool_bench views MAKES EVERY READS ASKS` makes MAKES directories through a lock, each in a
+//! transaction of its own, and publishes what has committed after every EVERY of them; then a
+//! reader stats the first one READS times, and a transaction asks for that ASKS times.
 #![tactic(auto)]
 
+mod counts;
 mod failed;
 mod growth;
 mod locking;
 mod measure;
 mod paths;
 mod stages;
+mod views;
 
+use counts::Counts;
 use failed::Failed;
 use locking::Asking;
 use measure::Measure;
 use stages::Stage;
 use std::alloc::Global;
 use std::env;
+use std::io::Print;
 use std::process::ExitCode;
+use std::sync::Wait;
+use views::publish;
 
 /// Runs a measure, and returns 0. Prints the reason and returns 1 if that fails.
 fn main(rt: HostRuntime) -> ExitCode {
-    match measured(&rt) {
+    let done = match words_given(&rt) {
+        Ok(words) => measured(&rt, rt.alloc(), words.as_slice()),
+        Err(failed) => Err(failed),
+    };
+    match done {
         Ok(()) => ExitCode::from(0),
         Err(failed) => {
             let _ = rt.eprint(failed.text());
@@ -31,13 +45,17 @@ fn main(rt: HostRuntime) -> ExitCode {
 }
 
 /// Does what the words after the program's name ask for, and prints how often it went well.
-fn measured(rt: &HostRuntime) -> Result<(), Failed> {
-    let words = words_given(rt)?;
-    let [what, count, size] = words.as_slice() else {
+fn measured<R: Wait + Print>(rt: &R, alloc: Global, words: &[String]) -> Result<(), Failed> {
+    if let Some((what, counts)) = words.split_first() {
+        if what.as_str() == "views" {
+            return publish(rt, alloc, Counts::read(counts).ok_or(Failed::Usage)?);
+        }
+    }
+    let [what, count, size] = words else {
         return Err(Failed::Usage);
     };
     let (count, size) = (number(count.as_str())?, number(size.as_str())?);
-    let done = run(rt.alloc(), what.as_str(), count, size)?;
+    let done = run(alloc, what.as_str(), count, size)?;
     let _ = println!(rt; "{what} {count} {size}: {done}");
     Ok(())
 }

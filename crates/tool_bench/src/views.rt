@@ -1,19 +1,37 @@
-// The work that is counted.
+// What publishes and readers cost.
 ghost use Rattle.std.specs.Prelude.{◌≡◌};
 ghost use Rattle.ft_shared.specs.Opening.{named_by};
 
 use crate::counts::Counts;
+use crate::failed::Failed;
 use anyhow::{Result, bail};
 use ft_calls::Call;
+use ft_core::Core;
 use ft_path::FilePath;
 use ft_record::Recent;
-use ft_shared::{Opened, Shared, Sharing, ViewsOf};
+use ft_shared::{Opened, Shared, Sharing, ViewsOf, with_views};
 use ft_view::Reader;
 use std::alloc::Global;
+use std::io::Print;
+use std::marker::Brand;
 use std::sync::Wait;
 
+/// Does what is counted, and prints how many calls are published then.
+pub fn publish<R: Wait + Print>(rt: &R, alloc: Global, counts: Counts) -> Result<(), Failed> {
+    let Ok(opened) = with_views(Recent::of(Core::new(alloc)?)) else {
+        return Err(Failed::Call);
+    };
+    match work::<Brand, R>(rt, alloc, counts, opened) {
+        Ok(published) => {
+            let _ = println!(rt; "{published} calls are published");
+            Ok(())
+        }
+        Err(_) => Err(Failed::Call),
+    }
+}
+
 /// Does all of it, and returns how many calls are published then.
-pub fn work<J: Sharing, R: Wait>(
+fn work<J: Sharing, R: Wait>(
     rt: &R,
     alloc: Global,
     counts: Counts,

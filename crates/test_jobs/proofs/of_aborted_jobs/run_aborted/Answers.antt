@@ -4,8 +4,8 @@ use denote.Param.Send.{IsSync, struct_sync_at, sendable}
 use Rattle.std.proofs.sync.atomic.AtomicU64.TheSendSync as counter
 use Rattle.std.specs.contracts.marker.Brand as Brand
 use Rattle.ft_shared.proofs.Crossing.{Shared-sync}
-use Rattle.test_strain.specs.contracts.of_jobs.Aborting as Aborting
-use Rattle.test_strain.proofs.of_jobs.run_aborted.Goals as goal
+use Rattle.test_jobs.specs.contracts.of_aborted_jobs.Aborting as Aborting
+use Rattle.test_jobs.proofs.of_aborted_jobs.run_aborted.Goals as goal
 
 -- field by field, at one value: a core behind a lock is shared as it is elsewhere
 Aborting-sync : IsSync Aborting.the_row
