@@ -3,6 +3,7 @@
 ghost use Rattle.std.specs.Prelude.{◌≡◌};
 ghost use Rattle.ft_shared.specs.Origins.{without_views};
 
+use crate::of_waiters::{FEW_TURNS, MANY_TURNS, stat_call};
 use ft_calls::Call;
 use ft_core::{Fault, Outcome, TxnId};
 use ft_path::FilePath;
@@ -18,9 +19,8 @@ use std::time::{Clock, Duration, Instant};
 use test_scripts::{is_deadlock, new_shared};
 
 /// Returns a call that looks at the directory.
-fn stat_call(alloc: Global) -> Result<Call, Fail> {
-    let path = FilePath::new(alloc, b"/a".as_slice())?;
-    Ok(Call::Stat { path })
+fn stat_directory(alloc: Global) -> Result<Call, Fail> {
+    stat_call(alloc, b"/a".as_slice())
 }
 
 /// Returns whether a core reports a deadlock of two, if there is one.
@@ -56,7 +56,7 @@ fn cross<R: Wait>(rt: &R, alloc: Global, shared: &Shared) -> Result<(), Fail> {
     let looked_at = path.try_clone()?;
     let _ = shared.ask(rt, TxnId(2), Call::Mkdir { path, mode: None })?;
     let _ = shared.ask(rt, TxnId(1), Call::Stat { path: looked_at })?;
-    let _ = shared.ask(rt, TxnId(2), stat_call(alloc)?)?;
+    let _ = shared.ask(rt, TxnId(2), stat_directory(alloc)?)?;
     Ok(())
 }
 
@@ -88,7 +88,7 @@ fn wait_and_commit<R: Threads + Wait + Clock + Sync>(
 ) -> (Result<Outcome, Fault>, Result<(), Fault>) {
     thread::join(
         rt,
-        || shared.ask_wait(rt, TxnId(2), call, 400),
+        || shared.ask_wait(rt, TxnId(2), call, MANY_TURNS),
         || {
             thread::sleep(rt, Duration::from_millis(50));
             shared.commit(rt, TxnId(1))
@@ -106,7 +106,7 @@ fn goes_on<R: Threads + Wait + Clock + Sync>(rt: &R, shared: &Shared, call: &Cal
 
 /// Returns whether a waiting call goes on when another thread ends the transaction that blocks it.
 fn lets_go_on<R: Threads + Wait + Clock + Sync>(rt: &R, alloc: Global) -> Result<bool, Fail> {
-    let call = stat_call(alloc)?;
+    let call = stat_directory(alloc)?;
     let shared = with_directory(rt, alloc)?;
     let has_gone_on = goes_on(rt, &shared, &call);
     shared.into_core(rt);
@@ -121,7 +121,7 @@ fn waiter_lets_others_go_on(rt: HostRuntime) -> Result<(), Fail> {
 
 /// Returns whether a waiter waits for the first transaction all its turns long, and its ask stays.
 fn waits_in_vain<R: Wait + Clock>(rt: &R, shared: &Shared, call: &Call) -> bool {
-    let is_waiting = match &shared.ask_wait(rt, TxnId(2), call, 3) {
+    let is_waiting = match &shared.ask_wait(rt, TxnId(2), call, FEW_TURNS) {
         Ok(Outcome::Waits { blockers }) => blockers.as_slice() == [TxnId(1)].as_slice(),
         _ => false,
     };
@@ -130,7 +130,7 @@ fn waits_in_vain<R: Wait + Clock>(rt: &R, shared: &Shared, call: &Call) -> bool 
 
 /// Returns whether a call that stays blocked waits until its turns are used up.
 fn uses_turns_up<R: Wait + Clock>(rt: &R, alloc: Global) -> Result<bool, Fail> {
-    let call = stat_call(alloc)?;
+    let call = stat_directory(alloc)?;
     let shared = with_directory(rt, alloc)?;
     let has_waited = waits_in_vain(rt, &shared, &call);
     shared.into_core(rt);
@@ -146,7 +146,7 @@ fn turns_are_used_up(rt: HostRuntime) -> Result<(), Fail> {
 /// How long a waiter waits that asks three times in vain.
 fn time_in_vain<R: Wait + Clock>(rt: &R, shared: &Shared, call: &Call) -> Option<Duration> {
     let start = Instant::now(rt).ok()?;
-    match shared.ask_wait(rt, TxnId(2), call, 3) {
+    match shared.ask_wait(rt, TxnId(2), call, FEW_TURNS) {
         Ok(Outcome::Waits { .. }) => start.elapsed(rt).ok(),
         _ => None,
     }
@@ -177,7 +177,7 @@ fn time_beside_others<R: Threads + Wait + Clock + Sync>(
 
 /// Returns whether two pauses take their time by the clock while others end.
 fn pauses_its_time<R: Threads + Wait + Clock + Sync>(rt: &R, alloc: Global) -> Result<bool, Fail> {
-    let call = stat_call(alloc)?;
+    let call = stat_directory(alloc)?;
     let shared = with_directory(rt, alloc)?;
     let (waited, ended) = time_beside_others(rt, &shared, &call);
     shared.into_core(rt);
@@ -279,7 +279,7 @@ fn is_refused<J: Sharing, R: Wait>(rt: &R, core: Recorded) -> bool
 }
 
 #[test]
-fn single_calls(rt: HostRuntime) -> Result<(), Fail> {
+fn live_core_is_not_shared(rt: HostRuntime) -> Result<(), Fail> {
     let mut core = Recorded::new(rt.alloc())?;
     assert_eq!(rt; core.begin(), Ok(TxnId(1)));
     assert!(rt; is_refused::<Brand, HostRuntime>(&rt, core));

@@ -12,16 +12,16 @@ use std::time::{Clock, Duration};
 use test_scripts::{is_deadlock, new_shared};
 
 /// How often calls are asked for that wait in vain.
-const FEW_TURNS: u64 = 3;
+pub const FEW_TURNS: u64 = 3;
 
 /// How often a call is asked for that is to be granted in the end.
-const MANY_TURNS: u64 = 400;
+pub const MANY_TURNS: u64 = 400;
 
 /// The reply if what a call names is missing.
 const MISSING: Reply = Reply::Failed(Errno::ENOENT);
 
 /// Returns a call that looks at a path.
-fn stat_call(alloc: Global, path: &[u8]) -> Result<Call, Fail> {
+pub fn stat_call(alloc: Global, path: &[u8]) -> Result<Call, Fail> {
     let path = FilePath::new(alloc, path)?;
     Ok(Call::Stat { path })
 }

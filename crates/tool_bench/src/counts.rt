@@ -1,8 +1,9 @@
-// How often what is done.
+// The numbers among the words after the program's name.
+use crate::failed::Failed;
 
-/// How often what is done.
+/// How often `tool_bench views` does each thing.
 #[derive(Clone, Copy)]
-pub struct Counts {
+pub struct ViewCounts {
     /// How many directories are made.
     pub makes: u64,
     /// After how many of them something is published; 0 for never.
@@ -13,17 +14,17 @@ pub struct Counts {
     pub asks: u64,
 }
 
-impl Counts {
-    /// Four numbers, in this order.
-    pub fn read(words: &[String]) -> Option<Counts> {
+impl ViewCounts {
+    /// Four numbers, in this order. Fails with the usage if the words are others.
+    pub fn read(words: &[String]) -> Result<ViewCounts, Failed> {
         let [makes, every, reads, asks] = words else {
-            return None;
+            return Err(Failed::Usage);
         };
-        Some(Counts {
-            makes: makes.as_str().parse().ok()?,
-            every: every.as_str().parse().ok()?,
-            reads: reads.as_str().parse().ok()?,
-            asks: asks.as_str().parse().ok()?,
+        Ok(ViewCounts {
+            makes: number(makes.as_str())?,
+            every: number(every.as_str())?,
+            reads: number(reads.as_str())?,
+            asks: number(asks.as_str())?,
         })
     }
 
@@ -31,4 +32,9 @@ impl Counts {
     pub fn publishes_at(&self, made: u64) -> bool {
         self.every > 0 && made % self.every == 0
     }
+}
+
+/// Returns the number that a word spells. Fails with the usage if it spells none.
+pub fn number(word: &str) -> Result<u64, Failed> {
+    word.parse::<u64>().ok().ok_or(Failed::Usage)
 }

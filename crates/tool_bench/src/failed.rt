@@ -4,7 +4,8 @@ ghost use Rattle.std.specs.Prelude.{◌≡◌, true, OnOk};
 use ft_base::Memory;
 use ft_core::Fault;
 use ft_forest::ForestFault;
-use ft_path::PartsFault;
+use ft_path::{PartsFault, PathFault};
+use ft_view::ViewFault;
 use std::alloc::AllocError;
 
 /// Why a measure was given up. It owns nothing, so that what hands it on has nothing to drop.
@@ -50,14 +51,38 @@ impl From<AllocError> for Failed {
 }
 
 impl From<Fault> for Failed {
-    fn from(_: Fault) -> Failed {
-        Failed::Call
+    fn from(fault: Fault) -> Failed {
+        match fault {
+            Fault::Memory => Failed::Memory,
+            _ => Failed::Call,
+        }
+    }
+}
+
+impl From<ViewFault> for Failed {
+    fn from(fault: ViewFault) -> Failed {
+        match fault {
+            ViewFault::Memory => Failed::Memory,
+            _ => Failed::Call,
+        }
+    }
+}
+
+impl From<PathFault> for Failed {
+    fn from(fault: PathFault) -> Failed {
+        match fault {
+            PathFault::Memory => Failed::Memory,
+            PathFault::NulByte => Failed::Call,
+        }
     }
 }
 
 impl From<PartsFault> for Failed {
-    fn from(_: PartsFault) -> Failed {
-        Failed::Call
+    fn from(fault: PartsFault) -> Failed {
+        match fault {
+            PartsFault::Memory => Failed::Memory,
+            PartsFault::Errno(_) => Failed::Call,
+        }
     }
 }
 

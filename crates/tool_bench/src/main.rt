@@ -17,7 +17,7 @@ mod paths;
 mod stages;
 mod views;
 
-use counts::Counts;
+use counts::{ViewCounts, number};
 use failed::Failed;
 use locking::Asking;
 use measure::Measure;
@@ -27,7 +27,6 @@ use std::env;
 use std::io::Print;
 use std::process::ExitCode;
 use std::sync::Wait;
-use views::publish;
 
 /// Runs a measure, and returns 0. Prints the reason and returns 1 if that fails.
 fn main(rt: HostRuntime) -> ExitCode {
@@ -44,11 +43,12 @@ fn main(rt: HostRuntime) -> ExitCode {
     }
 }
 
-/// Does what the words after the program's name ask for, and prints how often it went well.
+/// Does what the words request, and prints a count: how often it went well, or of views how many
+/// calls are published.
 fn measured<R: Wait + Print>(rt: &R, alloc: Global, words: &[String]) -> Result<(), Failed> {
     if let Some((what, counts)) = words.split_first() {
         if what.as_str() == "views" {
-            return publish(rt, alloc, Counts::read(counts).ok_or(Failed::Usage)?);
+            return views::run(rt, alloc, ViewCounts::read(counts)?);
         }
     }
     let [what, count, size] = words else {
@@ -66,11 +66,6 @@ fn words_given(rt: &HostRuntime) -> Result<Vec<String>, Failed> {
         Ok(words) => Ok(words.skip(1).collect(rt.alloc())?),
         Err(_) => Err(Failed::Memory),
     }
-}
-
-/// Returns the number that a word spells. Fails with the usage if it spells none.
-fn number(word: &str) -> Result<u64, Failed> {
-    word.parse::<u64>().ok().ok_or(Failed::Usage)
 }
 
 /// Does what is measured `count` times, and returns how often it went well. Fails with the usage if

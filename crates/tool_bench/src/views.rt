@@ -2,9 +2,8 @@
 ghost use Rattle.std.specs.Prelude.{◌≡◌};
 ghost use Rattle.ft_shared.specs.Opening.{named_by};
 
-use crate::counts::Counts;
+use crate::counts::ViewCounts;
 use crate::failed::Failed;
-use anyhow::{Result, bail};
 use ft_calls::Call;
 use ft_core::Core;
 use ft_path::FilePath;
@@ -16,59 +15,57 @@ use std::io::Print;
 use std::marker::Brand;
 use std::sync::Wait;
 
-/// Does what is counted, and prints how many calls are published then.
-pub fn publish<R: Wait + Print>(rt: &R, alloc: Global, counts: Counts) -> Result<(), Failed> {
+/// Makes, publishes, reads and asks as often as the counts request, and prints how many calls are
+/// published then.
+pub fn run<R: Wait + Print>(rt: &R, alloc: Global, counts: ViewCounts) -> Result<(), Failed> {
     let Ok(opened) = with_views(Recent::of(Core::new(alloc)?)) else {
-        return Err(Failed::Call);
+        return Err(Failed::Memory);
     };
-    match work::<Brand, R>(rt, alloc, counts, opened) {
-        Ok(published) => {
-            let _ = println!(rt; "{published} calls are published");
-            Ok(())
-        }
-        Err(_) => Err(Failed::Call),
-    }
+    let published = work::<Brand, R>(rt, alloc, counts, opened)?;
+    let _ = println!(rt; "{published} calls are published");
+    Ok(())
 }
 
 /// Does all of it, and returns how many calls are published then.
 fn work<J: Sharing, R: Wait>(
     rt: &R,
     alloc: Global,
-    counts: Counts,
+    counts: ViewCounts,
     opened: Opened<Recent>,
-) -> Result<u64>
+) -> Result<u64, Failed>
     requires { named_by opened ≡ J.origin }
 {
     let Ok((shared, mut reader)) = opened.named::<J, R>(rt) else {
-        bail!("the views have no name");
+        return Err(Failed::Call);
     };
-    let told = work_through(rt, alloc, counts, &shared, &mut reader);
+    let published = work_through(rt, alloc, counts, &shared, &mut reader);
     shared.into_core(rt);
-    told
+    published
 }
 
-/// Makes, reads and asks as often as the counts request. Returns how many calls are published.
+/// Makes, publishes, reads and asks through the lock. Returns how many calls are published.
 fn work_through<J: Sharing, R: Wait>(
     rt: &R,
     alloc: Global,
-    counts: Counts,
+    counts: ViewCounts,
     shared: &Shared<J, Recent>,
     reader: &mut Reader<ViewsOf<J>>,
-) -> Result<u64> {
-    make(rt, alloc, counts, shared)?;
+) -> Result<u64, Failed> {
+    let published = make(rt, alloc, counts, shared)?;
     let path = FilePath::new(alloc, b"/0".as_slice())?;
-    let published = read(reader, counts.reads, &path)?;
+    read(reader, counts.reads, &path)?;
     ask(rt, counts.asks, &path, shared)?;
     Ok(published)
 }
 
-/// Makes the directories, and publishes them.
+/// Makes the directories, and publishes them. Returns how many calls are published.
 fn make<J: Sharing, R: Wait>(
     rt: &R,
     alloc: Global,
-    counts: Counts,
+    counts: ViewCounts,
     shared: &Shared<J, Recent>,
-) -> Result<()> {
+) -> Result<u64, Failed> {
+    let mut published = 0;
     for number in 0..counts.makes {
         let text = format!(in alloc; "/{number}")?;
         let path = FilePath::new(alloc, text.as_bytes())?;
@@ -76,20 +73,23 @@ fn make<J: Sharing, R: Wait>(
         let _ = shared.ask(rt, txn, Call::Mkdir { path, mode: None })?;
         shared.commit(rt, txn)?;
         if counts.publishes_at(number + 1) {
-            shared.publish(rt)?;
+            let (calls, _) = shared.publish(rt)?;
+            published = calls;
         }
     }
-    Ok(())
+    Ok(published)
 }
 
-/// Stats so many times, and returns how many calls the list has then.
-fn read<J: Sharing>(reader: &mut Reader<ViewsOf<J>>, reads: u64, path: &FilePath) -> Result<u64> {
-    let mut published = 0;
+/// Stats so many times.
+fn read<J: Sharing>(
+    reader: &mut Reader<ViewsOf<J>>,
+    reads: u64,
+    path: &FilePath,
+) -> Result<(), Failed> {
     for _ in 0..reads {
-        let (calls, _) = reader.stat(path)?;
-        published = calls;
+        let _ = reader.stat(path)?;
     }
-    Ok(published)
+    Ok(())
 }
 
 /// Asks for a stat so many times, in one transaction.
@@ -98,7 +98,7 @@ fn ask<J: Sharing, R: Wait>(
     asks: u64,
     path: &FilePath,
     shared: &Shared<J, Recent>,
-) -> Result<()> {
+) -> Result<(), Failed> {
     let txn = shared.begin(rt)?;
     for _ in 0..asks {
         let call = Call::Stat {

@@ -8,7 +8,7 @@ use std::sync::Wait;
 use test_scripts::{Answers, Through};
 
 /// Returns a new core behind a lock.
-pub fn new_shared(alloc: Global) -> Result<Shared<Brand, Core>, Fault> {
+pub fn new_shared_core(alloc: Global) -> Result<Shared<Brand, Core>, Fault> {
     Shared::new(Core::new(alloc)?).map_err(|refused| refused.fault)
 }
 

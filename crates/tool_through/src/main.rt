@@ -13,19 +13,19 @@ mod requests;
 
 use anyhow::Result;
 use playing::play;
-use refusals::refusals;
 use std::env;
 use std::io::Read;
 
-/// Plays the script on standard input, and writes its replies to standard output; or prints each
-/// refused step, if the first argument is `refusals`.
+/// Plays the script on standard input, and writes its replies to standard output. If the first word
+/// is `refusals`, publishes and makes requests instead, and also prints what is refused. Other
+/// words, such as a command of `ft`, are ignored.
 fn main(rt: HostRuntime) -> Result<()> {
     let words: Vec<String> = env::args(&rt)?.skip(1).collect(rt.alloc())?;
     if words
         .first()
         .is_some_and(|word| word.as_str() == "refusals")
     {
-        return refusals(&rt, rt.alloc());
+        return refusals::run(&rt, rt.alloc());
     }
     let mut script = Vec::new(rt.alloc());
     rt.stdin().read_to_end(&mut script)?;

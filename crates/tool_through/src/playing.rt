@@ -1,5 +1,5 @@
 // A script, played through a lock.
-use crate::locked::{execute, new_shared};
+use crate::locked::{execute, new_shared_core};
 use anyhow::Result;
 use ft_core::{Answer, Core, Request};
 use ft_line::{AnswerText, Query, ScriptLine, WaitsText, reply_to};
@@ -20,7 +20,7 @@ pub fn play<R: Threads + Wait + Sync, W: Write>(
     script: &[u8],
     writer: &mut W,
 ) -> Result<()> {
-    let shared = new_shared(alloc)?;
+    let shared = new_shared_core(alloc)?;
     let (_, played) = thread::join(
         rt,
         || shared.waits(rt).is_ok(),
@@ -103,7 +103,7 @@ fn waits_reply<R: Wait>(rt: &R, alloc: Global, shared: &Shared<Brand, Core>) -> 
 /// A core that has come to the end of these lines through a lock of its own. While a core is
 /// behind a lock, neither its tree nor its locks can be read, so they are read from this one.
 fn core_after<R: Wait>(rt: &R, alloc: Global, lines: &[&[u8]]) -> Result<Core> {
-    let shared = new_shared(alloc)?;
+    let shared = new_shared_core(alloc)?;
     let carried_out = carry_out_all(rt, alloc, &shared, lines);
     let core = shared.into_core(rt);
     carried_out?;

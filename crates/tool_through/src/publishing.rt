@@ -1,4 +1,4 @@
-// The steps, and their output.
+// Directories that are made through a lock and published, each once more if it is refused.
 ghost use Rattle.std.specs.Prelude.{◌≡◌};
 ghost use Rattle.ft_shared.specs.Opening.{named_by};
 
@@ -28,13 +28,13 @@ pub fn publish_each<J: Sharing, R: Wait + Print>(
     let Ok((shared, reader)) = opened.named::<J, R>(rt) else {
         bail!("the views have no name");
     };
-    let told = through(rt, alloc, &shared, reader);
+    let done = publish_all(rt, alloc, &shared, reader);
     shared.into_core(rt);
-    told
+    done
 }
 
 /// Makes directories and publishes each. Prints what is published, and what a reader sees of it.
-fn through<J: Sharing, R: Wait + Print>(
+fn publish_all<J: Sharing, R: Wait + Print>(
     rt: &R,
     alloc: Global,
     shared: &Shared<J, Recent>,
@@ -42,16 +42,16 @@ fn through<J: Sharing, R: Wait + Print>(
 ) -> Result<()> {
     let root = FilePath::new(alloc, b"/".as_slice())?;
     for number in 0..DIRECTORIES {
-        make_at_last(rt, alloc, shared, number)?;
-        let calls = publish_at_last(rt, shared, &mut reader, &root)?;
-        let names = count_at_last(rt, &mut reader, &root)?;
+        make_with_retry(rt, alloc, shared, number)?;
+        let calls = publish_with_retry(rt, shared, &mut reader, &root)?;
+        let names = count_with_retry(rt, &mut reader, &root)?;
         println!(rt; "published {calls}, and a reader sees {names}")?;
     }
     Ok(())
 }
 
 /// Makes a directory, and once more if that is refused.
-fn make_at_last<J: Sharing, R: Wait + Print>(
+fn make_with_retry<J: Sharing, R: Wait + Print>(
     rt: &R,
     alloc: Global,
     shared: &Shared<J, Recent>,
@@ -89,7 +89,7 @@ fn make<J: Sharing, R: Wait>(
 
 /// Publishes what has committed. If that is refused, it prints what a reader sees then, and
 /// publishes once more. Returns how many calls are published.
-fn publish_at_last<J: Sharing, R: Wait + Print>(
+fn publish_with_retry<J: Sharing, R: Wait + Print>(
     rt: &R,
     shared: &Shared<J, Recent>,
     reader: &mut Reader<ViewsOf<J>>,
@@ -107,7 +107,7 @@ fn publish_at_last<J: Sharing, R: Wait + Print>(
 }
 
 /// Returns how many names a reader sees, if it is not refused twice.
-fn count_at_last<J: Sharing, R: Print>(
+fn count_with_retry<J: Sharing, R: Print>(
     rt: &R,
     reader: &mut Reader<ViewsOf<J>>,
     root: &FilePath,

@@ -16,7 +16,7 @@ use std::sync::Wait;
 ///
 /// With all the memory that it needs, nothing is refused. It is there to be run with each of its
 /// allocations refused in turn.
-pub fn refusals<R: Wait + Print>(rt: &R, alloc: Global) -> Result<()> {
+pub fn run<R: Wait + Print>(rt: &R, alloc: Global) -> Result<()> {
     let Ok(opened) = with_views(Recent::of(Core::new(alloc)?)) else {
         bail!("there are no views");
     };

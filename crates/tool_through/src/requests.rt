@@ -20,7 +20,7 @@ const SCRIPT: &[u8] =
 /// Makes the requests, and prints the answer to each.
 pub fn request_each<R: Print>(rt: &R, alloc: Global, mut core: Recorded) -> Result<()> {
     for line in Lines::of(SCRIPT) {
-        let answer = answer_at_last(rt, alloc, &mut core, line)?;
+        let answer = answer_with_retry(rt, alloc, &mut core, line)?;
         println!(rt; "{}", AnswerText(&answer))?;
     }
     Ok(())
@@ -28,18 +28,18 @@ pub fn request_each<R: Print>(rt: &R, alloc: Global, mut core: Recorded) -> Resu
 
 /// Returns the answer to a request. If there is no memory for it, it is made once more; but nothing
 /// may have changed until then.
-fn answer_at_last<R: Print>(
+fn answer_with_retry<R: Print>(
     rt: &R,
     alloc: Global,
     core: &mut Recorded,
     line: &[u8],
 ) -> Result<Answer> {
-    let before = told_at_last(rt, alloc, core)?;
+    let before = state_text_with_retry(rt, alloc, core)?;
     let first = answer(alloc, core, line)?;
     if first != Answer::Refused(Fault::Memory) {
         return Ok(first);
     }
-    if told(alloc, core)? != before {
+    if state_text(alloc, core)? != before {
         bail!("a request that was refused has changed something");
     }
     println!(rt; "refused: request")?;
@@ -56,19 +56,19 @@ fn answer(alloc: Global, core: &mut Recorded, line: &[u8]) -> Result<Answer> {
 }
 
 /// Returns the description of a core, if it is not refused twice.
-fn told_at_last<R: Print>(rt: &R, alloc: Global, core: &Recorded) -> Result<String> {
-    match told(alloc, core) {
+fn state_text_with_retry<R: Print>(rt: &R, alloc: Global, core: &Recorded) -> Result<String> {
+    match state_text(alloc, core) {
         Ok(text) => Ok(text),
         Err(_) => {
             println!(rt; "refused: look")?;
-            told(alloc, core)
+            state_text(alloc, core)
         }
     }
 }
 
 /// Describes how many events a core has had, how many calls wait, which transaction waits for
 /// which, the locks, and the tree.
-fn told(alloc: Global, core: &Recorded) -> Result<String> {
+fn state_text(alloc: Global, core: &Recorded) -> Result<String> {
     let events = core.history().len();
     let asks = core.core().pending()?.len();
     let (edges, verdict) = judged_edges(core.core())?;

@@ -1,5 +1,5 @@
 use Rattle.ft_shared.specs.Opening.{named_by}
-use Rattle.tool_through.proofs.refusals.refusals.Given as goal
+use Rattle.tool_through.proofs.refusals.run.Given as goal
 
 -- the views that were just opened
 abbrev pub ghosts-publish_each : goal.ghosts-publish_each
