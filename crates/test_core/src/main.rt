@@ -1,11 +1,15 @@
-//! Tests of the core and of the crates right above it, in one crate: a crate with tests is proved a
-//! second time with them.
+//! Tests of the core, of what shares it, and of the views that readers have of what has committed,
+//! in one crate: a crate with tests is proved a second time with them.
 #![tactic(auto)]
 
 #[cfg(test)]
 mod of_core;
 #[cfg(test)]
+mod of_serial;
+#[cfg(test)]
 mod of_shared;
+#[cfg(test)]
+mod of_views;
 #[cfg(test)]
 mod of_waiters;
 #[cfg(test)]

@@ -1,5 +1,5 @@
 use Rattle.ft_shared.specs.Opening.{named_by}
-use Rattle.test_views.proofs.of_views.through_views.Given as goal
+use Rattle.test_core.proofs.of_views.through_views.Given as goal
 
 -- the views that were just opened
 abbrev pub ghosts-through_named : goal.ghosts-through_named

@@ -1,8 +1,8 @@
 use Rattle.std.proofs.Common.{◌∙◌}
 use Rattle.ft_laws.proofs.Lists.{Each-map}
 use Rattle.ft_tree.specs.Sound.{IsFree}
-use Rattle.test_views.proofs.Stamps.{each_stamp, distinct_stamps}
-use Rattle.test_views.proofs.of_serial.replays_from_new.Goals as goal
+use Rattle.test_core.proofs.Stamps.{each_stamp, distinct_stamps}
+use Rattle.test_core.proofs.of_serial.replays_from_new.Goals as goal
 
 pub replays-requires-clause-free : goal.replays-requires-clause-free
 replays-requires-clause-free c =
